@@ -1,0 +1,29 @@
+// Bytes on the wire: the CRC of 16 bits and the frames that it closes. Document 01, "A message and its reply".
+//
+// The crate knows no chip and no command. Where the CRC starts is an argument of everything here.
+mod crc16;
+mod reader;
+mod writer;
+
+pub use crc16::crc;
+pub use reader::data_of;
+pub use reader::read;
+pub use writer::write;
+
+// What a message is as a frame.
+pub enum Reading {
+    // A sound frame: its second byte, and how long its data is.
+    Sound { second: u8, length: usize },
+    // A spoiled one: the place where it went wrong.
+    Spoiled { place: usize },
+}
+
+// What came of writing.
+pub enum Written {
+    // The frame stands at the start of the buffer, and this is its length.
+    Frame(usize),
+    // Refused: the data is longer than a length field can say.
+    TooLong,
+    // Refused: the buffer is shorter than the frame.
+    NoRoom,
+}

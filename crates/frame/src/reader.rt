@@ -1,0 +1,57 @@
+// Reading a frame.
+use crate::Reading;
+use crate::crc16::crc;
+ghost use mathlib.Core.Path.{_≡_};
+ghost use Prim.Native.Nat.{_+_, _*_, _<_};
+ghost use lib.ListN.{length};
+ghost use Rattle.frame.specs.Frame.{reading, dataOf, wordAt};
+
+// Reads a message as a frame. It works out the CRC once.
+pub fn read(start: u16, bytes: &[u8]) -> Reading
+    ensures { λ r. ⌜ r ≡ reading start (now (bytes .entry)) ⌝ }
+{
+    let length = bytes.len();
+    if length < 6 {
+        return Reading::Spoiled { place: 0 };
+    }
+    if bytes[0] != 0x2D {
+        return Reading::Spoiled { place: 0 };
+    }
+    if length != word_at(bytes, 2) as usize + 6 {
+        return Reading::Spoiled { place: 2 };
+    }
+    let check = length - 2;
+    if word_at(bytes, check) != crc(start, &bytes[..check]) {
+        return Reading::Spoiled { place: check };
+    }
+    Reading::Sound {
+        second: bytes[1],
+        length: length - 6,
+    }
+}
+
+// The data of a frame: a part of the lent slice, from its fifth byte on. Nothing where there are fewer than six bytes.
+pub fn data_of(frame: &[u8]) -> &[u8]
+    ensures { λ r. ⌜ now r ≡ dataOf (now (frame .entry)) ⌝ }
+{
+    let length = frame.len();
+    if length < 6 {
+        return &frame[..0];
+    }
+    &frame[4..length - 2]
+}
+
+// The number in the two bytes from a place on.
+fn word_at(bytes: &[u8], place: usize) -> u16
+    requires { ⌜ place + 1 < length (now bytes) ⌝ }
+    ensures { λ r. ⌜ r ≡ wordAt (now (bytes .entry)) place ⌝ }
+{
+    joined(bytes[place], bytes[place + 1])
+}
+
+// The number of two bytes, the low one first.
+fn joined(low: u8, high: u8) -> u16
+    ensures { λ r. ⌜ r ≡ low + 256 * high ⌝ }
+{
+    low as u16 + 256 * (high as u16)
+}

@@ -1,0 +1,43 @@
+// Writing a frame. One function serves requests and replies.
+use crate::Written;
+use crate::crc16::crc;
+ghost use mathlib.Core.Path.{_≡_};
+ghost use Prim.Native.Nat.{_+_, _≤_};
+ghost use lib.ListN.{length};
+ghost use Rattle.frame.specs.Frame.{frame, laid, longest, overhead, outcome, word, writing};
+
+// Writes the frame of a second byte and data. The buffer's bytes past the frame stay, and after a refusal all of them.
+pub fn write(start: u16, second: u8, payload: &[u8], buffer: &mut [u8]) -> Written
+    ensures { λ r. ⌜ outcome r (now (buffer .exit)) ≡ writing start second (now (payload .entry)) (now (buffer .entry)) ⌝ }
+{
+    let length = payload.len();
+    if 65535 < length {
+        return Written::TooLong;
+    }
+    if buffer.len() < length + 6 {
+        return Written::NoRoom;
+    }
+    put(start, second, payload, buffer);
+    Written::Frame(length + 6)
+}
+
+// Lays the frame over the start of a buffer that has room for it: head, data and CRC, one behind the other.
+fn put(start: u16, second: u8, payload: &[u8], buffer: &mut [u8])
+    requires { ⌜ length (now payload) ≤ longest ⌝ }
+    requires { ⌜ length (now payload) + overhead ≤ length (now buffer) ⌝ }
+    ensures { λ _. ⌜ now (buffer .exit) ≡ laid (frame start second (now (payload .entry))) (now (buffer .entry)) ⌝ }
+{
+    let size = word(payload.len() as u16);
+    bytes::copy(&[0x2D, second, size[0], size[1]], buffer);
+    bytes::copy(payload, &mut buffer[4..]);
+    let end = payload.len() + 4;
+    let check = word(crc(start, &buffer[..end]));
+    bytes::copy(&check, &mut buffer[end..]);
+}
+
+// A number as it stands on the wire, low byte first.
+fn word(number: u16) -> [u8; 2]
+    ensures { λ r. ⌜ r ≡ word number ⌝ }
+{
+    [(number % 256) as u8, (number / 256) as u8]
+}
