@@ -1,0 +1,109 @@
+// Frames on the wire: 01, "A message and its reply".
+use crate::START;
+use crate::show;
+use crate::spoiled::Way;
+use crate::spoiled::tried;
+use std::num::wrapping_add_u64;
+
+// The check values over the nine characters.
+pub(crate) fn sums() {
+    let nine = b"123456789";
+    show::text(b"CRC over 123456789 from 0000: ");
+    show::word(frame::crc(START, nine));
+    show::text(b", from FFFF: ");
+    show::word(frame::crc(0xFFFF, nine));
+    show::text(b"\n");
+}
+
+// A frame that 01 prints: it is sound, it is what the writer writes, and every way to spoil it is found.
+pub(crate) fn printed(frame: [u8; 6]) {
+    read(START, &frame);
+    write(START, frame[1], b"", &mut [0xEE; 8]);
+    tried(frame, Way::Byte(0), 255).shown(b"byte 0 changed");
+    tried(frame, Way::Byte(1), 255).shown(b"byte 1 changed");
+    tried(frame, Way::Byte(2), 255).shown(b"byte 2 changed");
+    tried(frame, Way::Byte(3), 255).shown(b"byte 3 changed");
+    tried(frame, Way::Byte(4), 255).shown(b"byte 4 changed");
+    tried(frame, Way::Byte(5), 255).shown(b"byte 5 changed");
+    tried(frame, Way::Cut, 1).shown(b"cut short by one");
+    tried(frame, Way::Appended, 256).shown(b"one byte appended");
+    tried(frame, Way::Head, 255).shown(b"another head, CRC anew");
+    tried(frame, Way::Length, 65535).shown(b"another data length, CRC anew");
+    tried(frame, Way::Longer, 256).shown(b"one byte longer, CRC anew");
+}
+
+// 01's printed frames hold for start 0 only.
+pub(crate) fn other_start() {
+    show::text(b"From start FFFF\n");
+    read(0xFFFF, &[0x2D, 0x41, 0x00, 0x00, 0x55, 0x24]);
+    write(0xFFFF, 0x41, b"", &mut [0xEE; 6]);
+}
+
+// A frame that carries data.
+pub(crate) fn with_data() {
+    show::text(b"With data\n");
+    write(START, 0x12, b"123456789", &mut [0xEE; 16]);
+    read(START, b"\x2D\x12\x09\x00123456789\x42\x1C");
+}
+
+// Room for the frame, and one byte too little.
+pub(crate) fn rooms() {
+    show::text(b"Room\n");
+    write(START, 0x41, b"", &mut [0xEE; 6]);
+    write(START, 0x41, b"", &mut [0xEE; 5]);
+    write(START, 0x12, b"1", &mut [0xEE; 7]);
+    write(START, 0x12, b"1", &mut [0xEE; 6]);
+}
+
+// The longest data that a length field can say, and one byte more.
+pub(crate) fn lengths() {
+    let payload = [0x5A; 65536];
+    let mut buffer = [0xEE; 65543];
+    show::text(b"65535 bytes of data: ");
+    show::written(frame::write(START, 0x12, &payload[..65535], &mut buffer));
+    show::text(b"; from byte 65538 on: ");
+    show::bytes(&buffer[65538..]);
+    show::text(b"; read: ");
+    show::reading(frame::read(START, &buffer[0..65541]));
+    show::text(b"\n65536 bytes of data: ");
+    let mut other = [0xEE; 65543];
+    show::written(frame::write(START, 0x12, &payload, &mut other));
+    show::text(b"; bytes of the buffer that changed: ");
+    show::number(changed(&other, 0xEE));
+    show::text(b"\n");
+}
+
+// How many bytes are not what they were filled with.
+fn changed(buffer: &[u8], fill: u8) -> u64 {
+    let mut count = 0;
+    let mut i = 0;
+    while i < buffer.len() {
+        if buffer[i] != fill {
+            count = wrapping_add_u64(count, 1);
+        }
+        i += 1;
+    }
+    count
+}
+
+fn read(start: u16, bytes: &[u8]) {
+    show::bytes(bytes);
+    show::text(b": ");
+    show::reading(frame::read(start, bytes));
+    show::text(b"; data: ");
+    show::bytes(frame::data_of(bytes));
+    show::text(b"\n");
+}
+
+// The frame is written into a lent buffer, whose bytes past the frame stay.
+fn write(start: u16, second: u8, payload: &[u8], buffer: &mut [u8]) {
+    show::text(b"second byte ");
+    show::byte(second);
+    show::text(b", data ");
+    show::bytes(payload);
+    show::text(b": ");
+    show::written(frame::write(start, second, payload, buffer));
+    show::text(b"; the buffer: ");
+    show::bytes(buffer);
+    show::text(b"\n");
+}
