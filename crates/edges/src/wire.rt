@@ -4,6 +4,8 @@ use crate::show;
 use crate::spoiled::Way;
 use crate::spoiled::tried;
 use std::num::wrapping_add_u64;
+ghost use mathlib.Core.Path.{_≡_};
+ghost use lib.ListN.{length};
 
 // The check values over the nine characters.
 pub(crate) fn sums() {
@@ -57,20 +59,33 @@ pub(crate) fn rooms() {
 
 // The longest data that a length field can say, and one byte more.
 pub(crate) fn lengths() {
-    let payload = [0x5A; 65536];
-    let mut buffer = [0xEE; 65543];
+    let payload = long_payload();
+    let mut buffer = long_buffer();
     show::text(b"65535 bytes of data: ");
-    show::written(frame::write(START, 0x12, &payload[..65535], &mut buffer));
+    show::written(frame::write(START, 0x12, &payload[0..65535], &mut buffer));
     show::text(b"; from byte 65538 on: ");
     show::bytes(&buffer[65538..]);
     show::text(b"; read: ");
     show::reading(frame::read(START, &buffer[0..65541]));
     show::text(b"\n65536 bytes of data: ");
-    let mut other = [0xEE; 65543];
+    let mut other = long_buffer();
     show::written(frame::write(START, 0x12, &payload, &mut other));
     show::text(b"; bytes of the buffer that changed: ");
     show::number(changed(&other, 0xEE));
     show::text(b"\n");
+}
+
+// Of each a caller's proof sees the length alone, which keeps the check quick.
+fn long_payload() -> [u8; 65536]
+    ensures { λ r. ⌜ 65536 ≡ length r ⌝ }
+{
+    [0x5A; 65536]
+}
+
+fn long_buffer() -> [u8; 65543]
+    ensures { λ r. ⌜ 65543 ≡ length r ⌝ }
+{
+    [0xEE; 65543]
 }
 
 // How many bytes are not what they were filled with.

@@ -1,6 +1,6 @@
 -- Frames, from document 01, "A message and its reply": 0x2D, a second byte (the command, or in a reply the result), data length (2), data, CRC (2).
 -- A frame is a list of bytes. The CRC's start value is an argument throughout.
-use Prim.Native.Nat.{ℕ, _+_, _-_, _*_, _/_, _%_}
+use Prim.Native.Nat.{ℕ, _+_, _-_, _*_, _/_, _%_, _<_}
 use mathlib.Core.Bool.{cond, not}
 use mathlib.Core.List.{List, [], _∷_, _++_}
 use lib.Dec.{ltb, eqb}
@@ -10,6 +10,10 @@ use Rattle.frame.specs.declared.Reading.{Reading}
 use Rattle.frame.specs.declared.Reading.the-variants.{Sound, Spoiled}
 use Rattle.frame.specs.declared.Written.{Written}
 use Rattle.frame.specs.declared.Written.the-variants.{Frame, TooLong, NoRoom}
+
+-- Every number of a list is a byte: so it is in every slice that the code is lent.
+abbrev pub AllBytes : List ℕ → Type 0
+AllBytes bytes = (i : ℕ) → getD bytes i 0 < 256
 
 -- The first byte of every frame.
 abbrev pub head : ℕ

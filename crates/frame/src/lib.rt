@@ -10,6 +10,15 @@ pub use reader::data_of;
 pub use reader::read;
 pub use writer::write;
 
+// The first byte of every frame.
+const HEAD: u8 = 0x2D;
+
+// The bytes of a frame beside its data: head, second byte, data length and CRC.
+const OVERHEAD: usize = 6;
+
+// The longest data that two bytes of length can say.
+const LONGEST: usize = 65535;
+
 // What a message is as a frame.
 pub enum Reading {
     // A sound frame: its second byte, and how long its data is.

@@ -1,4 +1,6 @@
 // Reading a frame.
+use crate::HEAD;
+use crate::OVERHEAD;
 use crate::Reading;
 use crate::crc16::crc;
 ghost use mathlib.Core.Path.{_≡_};
@@ -11,13 +13,13 @@ pub fn read(start: u16, bytes: &[u8]) -> Reading
     ensures { λ r. ⌜ r ≡ reading start (now (bytes .entry)) ⌝ }
 {
     let length = bytes.len();
-    if length < 6 {
+    if length < OVERHEAD {
         return Reading::Spoiled { place: 0 };
     }
-    if bytes[0] != 0x2D {
+    if bytes[0] != HEAD {
         return Reading::Spoiled { place: 0 };
     }
-    if length != word_at(bytes, 2) as usize + 6 {
+    if length != word_at(bytes, 2) as usize + OVERHEAD {
         return Reading::Spoiled { place: 2 };
     }
     let check = length - 2;
@@ -26,7 +28,7 @@ pub fn read(start: u16, bytes: &[u8]) -> Reading
     }
     Reading::Sound {
         second: bytes[1],
-        length: length - 6,
+        length: length - OVERHEAD,
     }
 }
 
@@ -35,7 +37,7 @@ pub fn data_of(frame: &[u8]) -> &[u8]
     ensures { λ r. ⌜ now r ≡ dataOf (now (frame .entry)) ⌝ }
 {
     let length = frame.len();
-    if length < 6 {
+    if length < OVERHEAD {
         return &frame[..0];
     }
     &frame[4..length - 2]

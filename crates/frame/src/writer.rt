@@ -1,4 +1,7 @@
 // Writing a frame. One function serves requests and replies.
+use crate::HEAD;
+use crate::LONGEST;
+use crate::OVERHEAD;
 use crate::Written;
 use crate::crc16::crc;
 ghost use mathlib.Core.Path.{_≡_};
@@ -11,14 +14,14 @@ pub fn write(start: u16, second: u8, payload: &[u8], buffer: &mut [u8]) -> Writt
     ensures { λ r. ⌜ outcome r (now (buffer .exit)) ≡ writing start second (now (payload .entry)) (now (buffer .entry)) ⌝ }
 {
     let length = payload.len();
-    if 65535 < length {
+    if LONGEST < length {
         return Written::TooLong;
     }
-    if buffer.len() < length + 6 {
+    if buffer.len() < length + OVERHEAD {
         return Written::NoRoom;
     }
     put(start, second, payload, buffer);
-    Written::Frame(length + 6)
+    Written::Frame(length + OVERHEAD)
 }
 
 // Lays the frame over the start of a buffer that has room for it: head, data and CRC, one behind the other.
@@ -28,7 +31,7 @@ fn put(start: u16, second: u8, payload: &[u8], buffer: &mut [u8])
     ensures { λ _. ⌜ now (buffer .exit) ≡ laid (frame start second (now (payload .entry))) (now (buffer .entry)) ⌝ }
 {
     let size = word(payload.len() as u16);
-    bytes::copy(&[0x2D, second, size[0], size[1]], buffer);
+    bytes::copy(&[HEAD, second, size[0], size[1]], buffer);
     bytes::copy(payload, &mut buffer[4..]);
     let end = payload.len() + 4;
     let check = word(crc(start, &buffer[..end]));

@@ -1,12 +1,40 @@
 -- `frame::reader::read` meets its contract: at each `return` the tests that led there pick the case of `reading`.
-use mathlib.Core.Path.{sym}
+use Prim.Native.Nat.{ℕ, _-_}
+use mathlib.Core.Bool.{cond, not}
+use mathlib.Core.List.{List}
+use mathlib.Core.Path.{_≡_, sym}
+use denote.Ref.{now}
+use lib.Dec.{eqb}
+use lib.ListN.{length, take, getD}
 use native.Mathlib.Omega.{arith}
 use lib.Seq.{length-take-le}
 use borrow.Author.Tests.{lt-ltb, le-ltb, eq-eqb, ne-eqb}
-use Rattle.frame.specs.Frame.{reading}
+use Rattle.frame.specs.Crc.{crc}
+use Rattle.frame.specs.Frame.{overhead, wordAt, reading}
+use Rattle.frame.specs.declared.Reading.the-variants.{Sound, Spoiled}
 use borrow.Author.Needs.{needs}
 use Rattle.frame.proofs.reader.read.Statement.{statement}
 use Rattle.frame.proofs.reader.read.Tie as tie
+
+-- the message, and the start value
+abbrev message : tie.Else3 → List ℕ
+message c = now (c .before .before .before .before .before .before .args .bytes)
+
+abbrev start : tie.Else3 → ℕ
+start c = c .before .before .before .before .before .before .args .start
+
+-- past the first three tests the CRC decides
+crc-decides : (c : tie.Else3) → let check = length (message c) - 2 in reading (start c) (message c)
+    ≡ cond (not (eqb (wordAt (message c) check) (crc (start c) (take check (message c))))) (Spoiled check) (Sound (getD (message c) 1 0) (length (message c) - overhead))
+unfolding reading
+crc-decides c =
+    let at-if2 = c .before .before in
+    simp (
+      le-ltb _ _ (at-if2 .before .before .if1 .left),
+      eq-eqb _ _ (at-if2 .if2 .left),
+      ← c .before .word-at .ensures,
+      eq-eqb _ _ (c .if3 .left),
+    )
 
 returns : tie.Need-returns
 unfolding reading
@@ -52,38 +80,19 @@ crc-requires : tie.Need-crc-requires
 crc-requires c κs = search needs
 
 returns-4 : tie.Need-returns-4
-unfolding reading
 returns-4 c =
-    let at-if3 = c .before .before .before .before in
-    let at-if2 = at-if3 .before .before in
-    simp (
-      le-ltb _ _ (at-if2 .before .before .if1 .left),
-      eq-eqb _ _ (at-if2 .if2 .left),
-      ← at-if3 .before .word-at .ensures,
-      eq-eqb _ _ (at-if3 .if3 .left),
-      ← c .before .before .before .word-at2 .ensures,
-      ← c .before .crc .ensures,
-      ne-eqb _ _ (c .if4 .taken),
-    )
+    let at-crc = c .before in
+    let at-word-at2 = at-crc .before .before in
+    rw (crc-decides (at-word-at2 .before)) (simp (← at-word-at2 .word-at2 .ensures, ← at-crc .crc .ensures, ne-eqb _ _ (c .if4 .taken)))
 
 shared-slice-read-t7 : tie.Need-shared-slice-read-t7
 shared-slice-read-t7 c = search needs
 
 returns-5 : tie.Need-returns-5
-unfolding reading
 returns-5 c =
-    let at-if4 = c .before in
-    let at-if3 = at-if4 .before .before .before .before in
-    let at-if2 = at-if3 .before .before in
-    simp (
-      le-ltb _ _ (at-if2 .before .before .if1 .left),
-      eq-eqb _ _ (at-if2 .if2 .left),
-      ← at-if3 .before .word-at .ensures,
-      eq-eqb _ _ (at-if3 .if3 .left),
-      ← at-if4 .before .before .before .word-at2 .ensures,
-      ← at-if4 .before .crc .ensures,
-      eq-eqb _ _ (at-if4 .if4 .left),
-    )
+    let at-crc = c .before .before in
+    let at-word-at2 = at-crc .before .before in
+    rw (crc-decides (at-word-at2 .before)) (simp (← at-word-at2 .word-at2 .ensures, ← at-crc .crc .ensures, eq-eqb _ _ (c .before .if4 .left)))
 
 pub read-spec : {M : Type 1} → statement M
 read-spec =

@@ -1,0 +1,52 @@
+-- What stands where in a frame that was written.
+use Prim.Native.Nat.{ℕ, _+_, _-_, _^_, _≤_, _<_}
+use mathlib.Core.List.{List, _∷_, _++_}
+use mathlib.Core.Path.{_≡_, refl}
+use native.Mathlib.Omega.{arith}
+use lib.ListN.{length, take, getD, length-append}
+use lib.Seq.{take-at}
+use Rattle.frame.specs.Crc.{byteDone, crc}
+use Rattle.frame.specs.Frame.{head, overhead, longest, word, wordAt, covered, frame, dataOf}
+use Rattle.frame.proofs.Laws.Sums.{byte-fits, sum-fits}
+use Rattle.frame.proofs.Laws.Words.{joined, behind}
+
+module _ (start second : ℕ) (payload : List ℕ) where
+  pub whole-length : length (frame start second payload) ≡ length payload + overhead
+  unfolding frame covered word
+  whole-length = simp length-append (omega arith)
+
+  covered-length : length (covered second payload) ≡ length payload + 4
+  unfolding covered word
+  covered-length = omega arith
+
+  check-fits : crc start (covered second payload) < 2 ^ 16
+  unfolding crc covered
+  check-fits =
+      sum-fits (byteDone start head) (second ∷ word (length payload) ++ payload) (byte-fits start head)
+
+  pub head-at : getD (frame start second payload) 0 0 ≡ head
+  unfolding frame covered
+  head-at = refl
+
+  pub second-at : getD (frame start second payload) 1 0 ≡ second
+  unfolding frame covered
+  second-at = refl
+
+  pub length-at : length payload ≤ longest → wordAt (frame start second payload) 2 ≡ length payload
+  unfolding wordAt frame covered word
+  length-at short = joined (length payload) (omega arith)
+
+  data-length : length payload ≡ length (frame start second payload) - overhead
+  data-length = omega (arith, whole-length)
+
+  pub data-at : dataOf (frame start second payload) ≡ payload
+  unfolding dataOf frame covered word
+  data-at = take-at payload _ _ data-length
+
+  pub covered-at : take (length payload + 4) (frame start second payload) ≡ covered second payload
+  unfolding frame
+  covered-at = take-at _ _ _ covered-length
+
+  pub check-at : wordAt (frame start second payload) (length payload + 4) ≡ crc start (covered second payload)
+  unfolding frame
+  check-at = rw (← covered-length) (behind (covered second payload) _ check-fits)
