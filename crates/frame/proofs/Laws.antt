@@ -19,12 +19,11 @@ use Rattle.frame.specs.Crc.{byteDone, crc}
 use Rattle.frame.specs.Frame.{AllBytes, head, overhead, longest, word, covered, frame, dataOf, reading, laid, outcome, writing}
 use Rattle.frame.specs.declared.Reading.the-variants.{Sound}
 use Rattle.frame.specs.declared.Written.the-variants.{Frame, TooLong, NoRoom}
-mod Answered
-mod Bytes
-mod Sums
-mod Words
-mod Written
-mod Read
+use Rattle.frame.proofs.Answered
+use Rattle.frame.proofs.Bytes
+use Rattle.frame.proofs.Passed
+use Rattle.frame.proofs.Places
+use Rattle.frame.proofs.Sums
 
 -- ---- the CRC
 
@@ -77,7 +76,7 @@ module _ (start second : ℕ) (payload buffer : List ℕ) where
 -- ---- what is written is read back
 
 pub length-frame : (start second : ℕ) (payload : List ℕ) → length (frame start second payload) ≡ length payload + overhead
-length-frame = Written.whole-length
+length-frame = Places.whole-length
 
 pub written-is-read : (start second : ℕ) (payload : List ℕ) → length payload ≤ longest
     → (reading start (frame start second payload) ≡ Sound second (length payload)) × (dataOf (frame start second payload) ≡ payload)
@@ -88,19 +87,19 @@ written-is-read start second payload short =
     let rest : n + 6 - 6 ≡ n = omega arith in
     let whole : 6 ≤ n + 6 = omega arith in (
       simp (
-        Written.whole-length start second payload,
+        Places.whole-length start second payload,
         check,
         rest,
-        Written.head-at start second payload,
-        Written.second-at start second payload,
-        Written.length-at start second payload short,
-        Written.check-at start second payload,
-        Written.covered-at start second payload,
+        Places.head-at start second payload,
+        Places.second-at start second payload,
+        Places.length-at start second payload short,
+        Places.check-at start second payload,
+        Places.covered-at start second payload,
         le-ltb _ _ whole,
         eq-eqb (n + 6) (n + 6) refl,
         eq-eqb (crc start (covered second payload)) (crc start (covered second payload)) refl,
       ),
-      Written.data-at start second payload,
+      Places.data-at start second payload,
     )
 
 -- ---- what is read was written
@@ -108,20 +107,20 @@ written-is-read start second payload short =
 module _ (start : ℕ) (bytes : List ℕ) (second n : ℕ) (sound : reading start bytes ≡ Sound second n) where
   pub length-data : length (dataOf bytes) ≡ n
   length-data =
-      let was = Read.passes start bytes second n sound in
-      Read.data-length start bytes second n was ∙ was .counted
+      let was = Passed.passes start bytes second n sound in
+      Passed.data-length start bytes second n was ∙ was .counted
 
   pub short-data : AllBytes bytes → n ≤ longest
-  short-data all = Read.short start bytes second n (Read.passes start bytes second n sound) all
+  short-data all = Passed.short start bytes second n (Passed.passes start bytes second n sound) all
 
   pub read-was-written : AllBytes bytes → bytes ≡ frame start second (dataOf bytes)
   unfolding frame
   read-was-written all =
-      let was = Read.passes start bytes second n sound in
+      let was = Passed.passes start bytes second n sound in
       let check = length bytes - 2 in
       sym (take-append-drop check bytes)
-      ∙ ap (λ (rest : List ℕ). take check bytes ++ rest) (Read.check-is start bytes second n was all)
-      ∙ ap (λ (front : List ℕ). front ++ word (crc start front)) (Read.covered-is start bytes second n was all)
+      ∙ ap (λ (rest : List ℕ). take check bytes ++ rest) (Passed.check-is start bytes second n was all)
+      ∙ ap (λ (front : List ℕ). front ++ word (crc start front)) (Passed.covered-is start bytes second n was all)
 
 pub read-once : (start second n : ℕ) (one other : List ℕ) → AllBytes one → AllBytes other
     → reading start one ≡ Sound second n → reading start other ≡ Sound second n → dataOf one ≡ dataOf other → one ≡ other

@@ -6,11 +6,11 @@ use Rattle.frame.proofs.crc16.bit_done.Tie as tie
 
 returns : tie.Need-returns
 unfolding shifted bitDone
-returns c = simp (lt-ltb _ _ (c .if1 .taken))
+returns c = simp (lt-ltb (c .before .args .value) 0x8000 (c .if1 .taken))
 
 returns-2 : tie.Need-returns-2
 unfolding polynomial shifted bitDone
-returns-2 c = simp (le-ltb _ _ (c .if1 .left))
+returns-2 c = simp (le-ltb (c .before .args .value) 0x8000 (c .if1 .left))
 
 pub bit-done-spec : {M : Type 1} → statement M
 bit-done-spec = tie.close (tie.spec returns returns-2)

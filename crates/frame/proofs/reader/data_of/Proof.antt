@@ -1,9 +1,9 @@
 -- `frame::reader::data_of` meets its contract: four bytes and two are left out of six or more.
-use Prim.Native.Nat.{_-_}
-use mathlib.Core.Path.{_≡_}
+use Prim.Native.Nat.{ℕ, _-_}
+use mathlib.Core.Path.{_≡_, ap}
 use native.Mathlib.Omega.{arith}
 use denote.Ref.{now}
-use lib.ListN.{length}
+use lib.ListN.{length, take, drop}
 use Rattle.frame.specs.Frame.{dataOf}
 use borrow.Author.Needs.{needs}
 use Rattle.frame.proofs.reader.data_of.Statement.{statement}
@@ -33,9 +33,9 @@ part-result-end c = search needs
 returns-2 : tie.Need-returns-2
 unfolding dataOf
 returns-2 c =
-    let n = length (now (c .before .before .args .frame)) in
-    let between : n - 2 - 4 ≡ n - 6 = omega arith in
-    rw between
+    let bytes = now (c .before .before .args .frame) in
+    let between : length bytes - 2 - 4 ≡ length bytes - 6 = omega arith in
+    ap (λ (count : ℕ). take count (drop 4 bytes)) between
 
 pub data-of-spec : {M : Type 1} → statement M
 data-of-spec =

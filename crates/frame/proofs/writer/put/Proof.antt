@@ -1,16 +1,16 @@
 -- `frame::writer::put` meets its contract. Head, data and CRC are laid over the buffer one behind the other, and what is laid by then is at each step a front of the frame.
-use Prim.Native.Nat.{ℕ, _+_, _-_, _≤_}
+use Prim.Native.Nat.{ℕ, _+_, _-_}
 use mathlib.Core.Path.{_≡_, refl, sym, ap, _∙_}
-use mathlib.Core.List.{List, [], _∷_, _++_, append-assoc, append-nil}
+use mathlib.Core.List.{List, _∷_, _++_, append-assoc, append-nil}
 use native.Mathlib.Nat.{add-sub-cancel-left}
-use native.Mathlib.Omega.{arith}
 use borrow.Author.Needs.{needs}
 use borrow.Rule.Slice.PartMut.{midOf, putMid}
 use denote.Ref.{now}
 use lib.ListN.{length, take, drop, length-append}
-use lib.Seq.{take-length, drop-length, drop-drop, take-append-seam, drop-append-seam, length-take-le}
+use lib.Seq.{take-length, drop-length, drop-drop, take-append-seam, drop-append-seam}
 use Rattle.frame.specs.Crc.{crc}
 use Rattle.frame.specs.Frame.{head, word, covered, frame, laid}
+use Rattle.frame.proofs.Places.{covered-length}
 use Rattle.frame.proofs.writer.put.Statement.{statement}
 use Rattle.frame.proofs.writer.put.Tie as tie
 
@@ -68,11 +68,7 @@ data-laid c =
     let s = start-of at-copy in
     behind (before-data s) (payload s) (came s) _ _ 4 (head-laid at-copy) refl (c .copy2 .ensures .1)
 
--- all before the CRC is summed
-covered-length : (second : ℕ) (bytes : List ℕ) → length bytes + 4 ≡ length (covered second bytes)
-unfolding covered word
-covered-length second bytes = omega arith
-
+-- and the CRC is worked out over all before it
 covered-front : (c : tie.After-copy2) → let s = start-of (c .before .before .before .before) in take (length (payload s) + 4) (data-in c) ≡ covered (s .args .second) (payload s)
 covered-front c = front _ _ _ _ (data-laid c) (covered-length _ _)
 

@@ -1,23 +1,24 @@
 -- What stands where in a frame that was written.
 use Prim.Native.Nat.{ℕ, _+_, _-_, _^_, _≤_, _<_}
 use mathlib.Core.List.{List, _∷_, _++_}
-use mathlib.Core.Path.{_≡_, refl}
+use mathlib.Core.Path.{_≡_, refl, sym}
 use native.Mathlib.Omega.{arith}
 use lib.ListN.{length, take, getD, length-append}
 use lib.Seq.{take-at}
 use Rattle.frame.specs.Crc.{byteDone, crc}
 use Rattle.frame.specs.Frame.{head, overhead, longest, word, wordAt, covered, frame, dataOf}
-use Rattle.frame.proofs.Laws.Sums.{byte-fits, sum-fits}
-use Rattle.frame.proofs.Laws.Words.{joined, behind}
+use Rattle.frame.proofs.Sums.{byte-fits, sum-fits}
+use Rattle.frame.proofs.Words.{joined, behind}
+
+-- The CRC stands behind four bytes and the data.
+pub covered-length : (second : ℕ) (payload : List ℕ) → length payload + 4 ≡ length (covered second payload)
+unfolding covered word
+covered-length second payload = omega arith
 
 module _ (start second : ℕ) (payload : List ℕ) where
   pub whole-length : length (frame start second payload) ≡ length payload + overhead
   unfolding frame covered word
   whole-length = simp length-append (omega arith)
-
-  covered-length : length (covered second payload) ≡ length payload + 4
-  unfolding covered word
-  covered-length = omega arith
 
   check-fits : crc start (covered second payload) < 2 ^ 16
   unfolding crc covered
@@ -45,8 +46,8 @@ module _ (start second : ℕ) (payload : List ℕ) where
 
   pub covered-at : take (length payload + 4) (frame start second payload) ≡ covered second payload
   unfolding frame
-  covered-at = take-at _ _ _ covered-length
+  covered-at = take-at _ _ _ (sym (covered-length second payload))
 
   pub check-at : wordAt (frame start second payload) (length payload + 4) ≡ crc start (covered second payload)
   unfolding frame
-  check-at = rw (← covered-length) (behind (covered second payload) _ check-fits)
+  check-at = rw (covered-length second payload) (behind (covered second payload) _ check-fits)

@@ -11,7 +11,7 @@ use lib.Seq.{take-add, length-take-le}
 use Rattle.frame.specs.Crc.{crc}
 use Rattle.frame.specs.Frame.{AllBytes, head, overhead, longest, word, wordAt, covered, dataOf, reading}
 use Rattle.frame.specs.declared.Reading.the-variants.{Sound, Spoiled}
-use Rattle.frame.proofs.Laws.Words.{parted, first-four, last-two}
+use Rattle.frame.proofs.Words.{parted, first-four, last-two}
 
 never : (place second n : ℕ) → Spoiled place ≡ Sound second n → ⊥
 never place second n same =
