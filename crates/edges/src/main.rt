@@ -16,5 +16,6 @@ fn main() {
     wire::other_start();
     wire::with_data();
     wire::rooms();
-    wire::lengths();
+    wire::longest();
+    wire::too_long();
 }

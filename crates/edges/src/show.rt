@@ -78,6 +78,17 @@ pub(crate) fn reading(answer: Reading) {
     }
 }
 
+// The data of a sound frame. A spoiled one has none to show.
+pub(crate) fn data(answer: Reading, message: &[u8]) {
+    if let Reading::Sound {
+        second: _,
+        length: _,
+    } = answer {
+        text(b"; data: ");
+        bytes(frame::data_of(message));
+    }
+}
+
 pub(crate) fn written(answer: Written) {
     match answer {
         Written::Frame(length) => {

@@ -57,8 +57,8 @@ pub(crate) fn rooms() {
     write(START, 0x12, b"1", &mut [0xEE; 6]);
 }
 
-// The longest data that a length field can say, and one byte more.
-pub(crate) fn lengths() {
+// The longest data that a length field can say.
+pub(crate) fn longest() {
     let payload = long_payload();
     let mut buffer = long_buffer();
     show::text(b"65535 bytes of data: ");
@@ -67,11 +67,17 @@ pub(crate) fn lengths() {
     show::bytes(&buffer[65538..]);
     show::text(b"; read: ");
     show::reading(frame::read(START, &buffer[0..65541]));
-    show::text(b"\n65536 bytes of data: ");
-    let mut other = long_buffer();
-    show::written(frame::write(START, 0x12, &payload, &mut other));
+    show::text(b"\n");
+}
+
+// One byte more than a length field can say.
+pub(crate) fn too_long() {
+    let payload = long_payload();
+    let mut buffer = long_buffer();
+    show::text(b"65536 bytes of data: ");
+    show::written(frame::write(START, 0x12, &payload, &mut buffer));
     show::text(b"; bytes of the buffer that changed: ");
-    show::number(changed(&other, 0xEE));
+    show::number(changed(&buffer, 0xEE));
     show::text(b"\n");
 }
 
@@ -104,9 +110,9 @@ fn changed(buffer: &[u8], fill: u8) -> u64 {
 fn read(start: u16, bytes: &[u8]) {
     show::bytes(bytes);
     show::text(b": ");
-    show::reading(frame::read(start, bytes));
-    show::text(b"; data: ");
-    show::bytes(frame::data_of(bytes));
+    let answer = frame::read(start, bytes);
+    show::reading(answer);
+    show::data(answer, bytes);
     show::text(b"\n");
 }
 

@@ -11,10 +11,6 @@ use Rattle.frame.specs.declared.Reading.the-variants.{Sound, Spoiled}
 use Rattle.frame.specs.declared.Written.{Written}
 use Rattle.frame.specs.declared.Written.the-variants.{Frame, TooLong, NoRoom}
 
--- Every number of a list is a byte: so it is in every slice that the code is lent.
-abbrev pub AllBytes : List ℕ → Type 0
-AllBytes bytes = (i : ℕ) → getD bytes i 0 < 256
-
 -- The first byte of every frame.
 abbrev pub head : ℕ
 head = 0x2D
@@ -76,3 +72,7 @@ writing start second payload buffer =
     cond (ltb longest (length payload)) (outcome TooLong buffer)
     (cond (ltb (length buffer) (length payload + overhead)) (outcome NoRoom buffer)
     (outcome (Frame (length payload + overhead)) (laid (frame start second payload) buffer)))
+
+-- For the laws: every number of a list is a byte, as it is in every slice that the code is lent.
+abbrev pub AllBytes : List ℕ → Type 0
+AllBytes bytes = (i : ℕ) → getD bytes i 0 < 256
