@@ -43,7 +43,7 @@ pub(crate) fn word(value: u16) {
     byte((value % 256) as u8);
 }
 
-// Bytes in the order of the wire, a space between two.
+// Bytes as 01 prints them, with a space between two.
 pub(crate) fn bytes(list: &[u8]) {
     if list.len() == 0 {
         text(b"none");

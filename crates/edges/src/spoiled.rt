@@ -1,4 +1,4 @@
-// Every way to spoil a frame that carries no data.
+// Six ways to spoil a frame that carries no data.
 use crate::START;
 use crate::tally::Tally;
 ghost use Prim.Native.Nat.{_≤_};

@@ -4,11 +4,11 @@ use frame::Reading;
 use std::num::wrapping_add_u64;
 
 pub(crate) struct Tally {
-    pub(crate) sound: u64,
-    pub(crate) at_head: u64,
-    pub(crate) at_length: u64,
-    pub(crate) at_check: u64,
-    pub(crate) elsewhere: u64,
+    sound: u64,
+    at_head: u64,
+    at_length: u64,
+    at_crc: u64,
+    elsewhere: u64,
 }
 
 impl Tally {
@@ -17,13 +17,13 @@ impl Tally {
             sound: 0,
             at_head: 0,
             at_length: 0,
-            at_check: 0,
+            at_crc: 0,
             elsewhere: 0,
         }
     }
 
-    // One reading more, of a message whose CRC stands at `check`. The counts stay far below where they would wrap.
-    pub(crate) fn with(mut self, answer: Reading, check: usize) -> Self {
+    // One reading more, of a message whose CRC stands at `crc_place`. No case has more than 65,535 readings, so no count wraps.
+    pub(crate) fn with(mut self, answer: Reading, crc_place: usize) -> Self {
         match answer {
             Reading::Sound {
                 second: _,
@@ -36,8 +36,8 @@ impl Tally {
                     self.at_head = wrapping_add_u64(self.at_head, 1);
                 } else if place == 2 {
                     self.at_length = wrapping_add_u64(self.at_length, 1);
-                } else if place == check {
-                    self.at_check = wrapping_add_u64(self.at_check, 1);
+                } else if place == crc_place {
+                    self.at_crc = wrapping_add_u64(self.at_crc, 1);
                 } else {
                     self.elsewhere = wrapping_add_u64(self.elsewhere, 1);
                 }
@@ -53,7 +53,7 @@ impl Tally {
         counted(self.sound, b" sound");
         counted(self.at_head, b" spoiled at 0");
         counted(self.at_length, b" spoiled at 2");
-        counted(self.at_check, b" spoiled at the CRC");
+        counted(self.at_crc, b" spoiled at the CRC");
         counted(self.elsewhere, b" spoiled elsewhere");
         show::text(b"\n");
     }

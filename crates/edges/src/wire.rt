@@ -17,7 +17,7 @@ pub(crate) fn sums() {
     show::text(b"\n");
 }
 
-// A frame that 01 prints: it is sound, it is what the writer writes, and every way to spoil it is found.
+// A frame that 01 prints: how it reads, what the writer writes for it, and how it reads once it is spoiled.
 pub(crate) fn printed(frame: [u8; 6]) {
     read(START, &frame);
     write(START, frame[1], b"", &mut [0xEE; 8]);
@@ -34,7 +34,7 @@ pub(crate) fn printed(frame: [u8; 6]) {
     tried(frame, Way::Longer, 256).shown(b"one byte longer, CRC anew");
 }
 
-// 01's printed frames hold for start 0 only.
+// From another start value the same bytes are spoiled, and another frame is written.
 pub(crate) fn other_start() {
     show::text(b"From start FFFF\n");
     read(0xFFFF, &[0x2D, 0x41, 0x00, 0x00, 0x55, 0x24]);
@@ -57,7 +57,7 @@ pub(crate) fn rooms() {
     write(START, 0x12, b"1", &mut [0xEE; 6]);
 }
 
-// The longest data that a length field can say.
+// As much data as two bytes of length can say.
 pub(crate) fn longest() {
     let payload = long_payload();
     let mut buffer = long_buffer();
@@ -70,18 +70,18 @@ pub(crate) fn longest() {
     show::text(b"\n");
 }
 
-// One byte more than a length field can say.
+// One byte more than that.
 pub(crate) fn too_long() {
     let payload = long_payload();
     let mut buffer = long_buffer();
     show::text(b"65536 bytes of data: ");
     show::written(frame::write(START, 0x12, &payload, &mut buffer));
     show::text(b"; bytes of the buffer that changed: ");
-    show::number(changed(&buffer, 0xEE));
+    show::number(other_than(&buffer, 0xEE));
     show::text(b"\n");
 }
 
-// Of each a caller's proof sees the length alone, which keeps the check quick.
+// Data and a buffer for those two. Whoever calls these knows the length and nothing of the bytes, which keeps the proofs short.
 fn long_payload() -> [u8; 65536]
     ensures { λ r. ⌜ 65536 ≡ length r ⌝ }
 {
@@ -94,8 +94,8 @@ fn long_buffer() -> [u8; 65543]
     [0xEE; 65543]
 }
 
-// How many bytes are not what they were filled with.
-fn changed(buffer: &[u8], fill: u8) -> u64 {
+// How many bytes are other than the one that the buffer was filled with.
+fn other_than(buffer: &[u8], fill: u8) -> u64 {
     let mut count = 0;
     let mut i = 0;
     while i < buffer.len() {

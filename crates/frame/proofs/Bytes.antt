@@ -1,4 +1,4 @@
--- Lists of bytes: longer ones, joined ones and parts.
+-- A list of bytes with a byte in front, two of them joined, and the first and the last of one are lists of bytes.
 use Prim.Native.Nat.{ℕ, zero, suc, _/_, _%_, _<_}
 use mathlib.Core.List.{List, [], _∷_, _++_}
 use native.Mathlib.Omega.{arith}
@@ -14,19 +14,19 @@ pub more : (byte : ℕ) (bytes : List ℕ) → byte < 256 → AllBytes bytes →
 more byte bytes small all zero = small
 more byte bytes small all (suc i) = all i
 
-pub joined : (bytes rest : List ℕ) → AllBytes bytes → AllBytes rest → AllBytes (bytes ++ rest)
-joined [] rest all all′ = all′
-joined (byte ∷ bytes) rest all all′ =
-    more byte (bytes ++ rest) (all 0) (joined bytes rest (λ i. all (suc i)) all′)
+pub both : (bytes others : List ℕ) → AllBytes bytes → AllBytes others → AllBytes (bytes ++ others)
+both [] others all all′ = all′
+both (byte ∷ bytes) others all all′ =
+    more byte (bytes ++ others) (all 0) (both bytes others (λ i. all (suc i)) all′)
 
-pub front : (count : ℕ) (bytes : List ℕ) → AllBytes bytes → AllBytes (take count bytes)
-front zero bytes all = none
-front (suc count) [] all = none
-front (suc count) (byte ∷ bytes) all =
-    more byte (take count bytes) (all 0) (front count bytes (λ i. all (suc i)))
+pub first : (count : ℕ) (bytes : List ℕ) → AllBytes bytes → AllBytes (take count bytes)
+first zero bytes all = none
+first (suc count) [] all = none
+first (suc count) (byte ∷ bytes) all =
+    more byte (take count bytes) (all 0) (first count bytes (λ i. all (suc i)))
 
-pub rest : (count : ℕ) (bytes : List ℕ) → AllBytes bytes → AllBytes (drop count bytes)
-rest count bytes all i = rw getD-drop (all _)
+pub last : (count : ℕ) (bytes : List ℕ) → AllBytes bytes → AllBytes (drop count bytes)
+last count bytes all i = rw getD-drop (all _)
 
 pub word-bytes : (number : ℕ) → AllBytes (word number)
 unfolding word

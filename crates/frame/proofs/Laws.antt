@@ -1,17 +1,18 @@
 -- The laws of frames: what a crate above goes by, with no definition of this crate opened. Each holds of any start value and of any data.
---     carried-on, crc-fits          the CRC of a joined list; the CRC fits 16 bits
---     written, too-long, no-room    what the writer leaves, where it writes and where it refuses
---     written-is-read               a frame is sound, with the byte and the data that it was written from
---     read-was-written              a sound frame is, byte for byte, what the writer writes for its second byte and its data
---     read-once                     so no two messages read as the same frame
---     length-frame, length-data, short-data, frame-bytes, data-bytes    lengths and bytes
---     laid-front, laid-rest, laid-length                                a buffer with something laid over it
+--     carried-on, crc-fits                   the CRC of a joined list; the CRC fits 16 bits
+--     laid-front, laid-rest, laid-length     a buffer with something laid over it
+--     written, too-long, no-room             which answer the writer gives, and what it leaves of the buffer
+--     answered                               the other way round: what is known where it answers with a length
+--     written-is-read, answered-is-read      a frame reads as sound, with the second byte and the data that it was made of
+--     read-was-written, read-once            a sound frame is the frame of its second byte and its data, so no two messages read alike
+--     length-message, length-data, short-data, length-frame     lengths
+--     frame-bytes, data-bytes                frames and their data are made of bytes
 -- Assumes nothing.
 use Prim.Native.Nat.{ℕ, _+_, _-_, _^_, _≤_, _<_}
 use mathlib.Core.List.{List, [], _∷_, _++_}
 use mathlib.Core.Path.{_≡_, refl, sym, ap, _∙_}
 use native.Mathlib.Omega.{arith}
-use borrow.Author.Tests.{lt-ltb, le-ltb, eq-eqb}
+use borrow.Author.Tests.{lt-ltb, le-ltb, eq-eqb, ltb-false}
 use lib.Dec.{ltb, lit<}
 use lib.ListN.{length, take, drop, length-append, length-drop, take-append-drop}
 use lib.Seq.{take-append-seam, drop-append-seam}
@@ -52,17 +53,18 @@ module _ (bytes buffer : List ℕ) where
 
 -- ---- writing
 
+-- What is known where the writer answers with a length.
+pub record Wrote (start second : ℕ) (payload buffer : List ℕ) (n : ℕ) (after : List ℕ) : Type 0 where
+  pub short : length payload ≤ longest
+  pub room : length payload + overhead ≤ length buffer
+  pub whole : n ≡ length payload + overhead
+  pub over : after ≡ laid (frame start second payload) buffer
+
 module _ (start second : ℕ) (payload buffer : List ℕ) where
   pub written : length payload ≤ longest → length payload + overhead ≤ length buffer
       → writing start second payload buffer ≡ outcome (Frame (length payload + overhead)) (laid (frame start second payload) buffer)
   unfolding writing
   written short room = simp (le-ltb _ _ short, le-ltb _ _ room)
-
-  pub answered : (n : ℕ) (after : List ℕ) → outcome (Frame n) after ≡ writing start second payload buffer
-      → (n ≡ length payload + overhead) × (after ≡ laid (frame start second payload) buffer)
-  unfolding writing
-  answered n after same =
-      Answered.neither (ltb longest (length payload)) (ltb (length buffer) (length payload + overhead)) _ _ _ buffer _ same
 
   pub too-long : longest < length payload → writing start second payload buffer ≡ outcome TooLong buffer
   unfolding writing
@@ -72,6 +74,12 @@ module _ (start second : ℕ) (payload buffer : List ℕ) where
       → writing start second payload buffer ≡ outcome NoRoom buffer
   unfolding writing
   no-room short none = simp (le-ltb _ _ short, lt-ltb _ _ none)
+
+  pub answered : (n : ℕ) (after : List ℕ) → outcome (Frame n) after ≡ writing start second payload buffer → Wrote start second payload buffer n after
+  unfolding writing
+  answered n after same =
+      let told = Answered.neither (ltb longest (length payload)) (ltb (length buffer) (length payload + overhead)) _ _ _ buffer _ same in
+      record { short = ltb-false _ _ (told .0); room = ltb-false _ _ (told .1); whole = told .2; over = told .3 }
 
 -- ---- what is written is read back
 
@@ -102,9 +110,23 @@ written-is-read start second payload short =
       Places.data-at start second payload,
     )
 
+-- and so it reads in the buffer that it was written into
+pub answered-is-read : (start second : ℕ) (payload buffer : List ℕ) (n : ℕ) (after : List ℕ) → Wrote start second payload buffer n after
+    → (reading start (take n after) ≡ Sound second (length payload)) × (dataOf (take n after) ≡ payload)
+answered-is-read start second payload buffer n after did =
+    let there : take n after ≡ frame start second payload =
+    rw (did .over, did .whole, ← length-frame start second payload) (laid-front _ _)
+    in
+    rw there (written-is-read start second payload (did .short))
+
 -- ---- what is read was written
 
 module _ (start : ℕ) (bytes : List ℕ) (second n : ℕ) (sound : reading start bytes ≡ Sound second n) where
+  pub length-message : length bytes ≡ n + overhead
+  length-message =
+      let was = Passed.passes start bytes second n sound in
+      omega arith
+
   pub length-data : length (dataOf bytes) ≡ n
   length-data =
       let was = Passed.passes start bytes second n sound in
@@ -122,12 +144,12 @@ module _ (start : ℕ) (bytes : List ℕ) (second n : ℕ) (sound : reading star
       ∙ ap (λ (rest : List ℕ). take check bytes ++ rest) (Passed.check-is start bytes second n was all)
       ∙ ap (λ (front : List ℕ). front ++ word (crc start front)) (Passed.covered-is start bytes second n was all)
 
-pub read-once : (start second n : ℕ) (one other : List ℕ) → AllBytes one → AllBytes other
-    → reading start one ≡ Sound second n → reading start other ≡ Sound second n → dataOf one ≡ dataOf other → one ≡ other
-read-once start second n one other all all′ sound sound′ same =
+pub read-once : (start : ℕ) (one other : List ℕ) (second n n′ : ℕ) → reading start one ≡ Sound second n → reading start other ≡ Sound second n′
+    → dataOf one ≡ dataOf other → AllBytes one → AllBytes other → one ≡ other
+read-once start one other second n n′ sound sound′ same all all′ =
     read-was-written start one second n sound all
     ∙ ap (frame start second) same
-    ∙ sym (read-was-written start other second n sound′ all′)
+    ∙ sym (read-was-written start other second n′ sound′ all′)
 
 -- ---- frames and their data are made of bytes
 
@@ -135,13 +157,13 @@ pub frame-bytes : (start second : ℕ) (payload : List ℕ) → second < 256 →
 unfolding frame covered
 frame-bytes start second payload small all =
     let sized : AllBytes (word (length payload) ++ payload) =
-    Bytes.joined (word (length payload)) payload (Bytes.word-bytes (length payload)) all
+    Bytes.both (word (length payload)) payload (Bytes.word-bytes (length payload)) all
     in
     let checked : AllBytes (covered second payload) =
     Bytes.more head (second ∷ word (length payload) ++ payload) (lit< tt) (Bytes.more second (word (length payload) ++ payload) small sized)
     in
-    Bytes.joined (covered second payload) (word (crc start (covered second payload))) checked (Bytes.word-bytes (crc start (covered second payload)))
+    Bytes.both (covered second payload) (word (crc start (covered second payload))) checked (Bytes.word-bytes (crc start (covered second payload)))
 
 pub data-bytes : (bytes : List ℕ) → AllBytes bytes → AllBytes (dataOf bytes)
 unfolding dataOf
-data-bytes bytes all = Bytes.front (length bytes - overhead) (drop 4 bytes) (Bytes.rest 4 bytes all)
+data-bytes bytes all = Bytes.first (length bytes - overhead) (drop 4 bytes) (Bytes.last 4 bytes all)

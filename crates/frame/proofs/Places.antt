@@ -1,4 +1,4 @@
--- What stands where in a frame that was written.
+-- What stands where in the frame of a second byte and data.
 use Prim.Native.Nat.{ℕ, _+_, _-_, _^_, _≤_, _<_}
 use mathlib.Core.List.{List, _∷_, _++_}
 use mathlib.Core.Path.{_≡_, refl, sym}
@@ -8,7 +8,7 @@ use lib.Seq.{take-at}
 use Rattle.frame.specs.Crc.{byteDone, crc}
 use Rattle.frame.specs.Frame.{head, overhead, longest, word, wordAt, covered, frame, dataOf}
 use Rattle.frame.proofs.Sums.{byte-fits, sum-fits}
-use Rattle.frame.proofs.Words.{joined, behind}
+use Rattle.frame.proofs.Words.{whole-again, word-behind}
 
 -- The CRC stands behind four bytes and the data.
 pub covered-length : (second : ℕ) (payload : List ℕ) → length payload + 4 ≡ length (covered second payload)
@@ -35,14 +35,14 @@ module _ (start second : ℕ) (payload : List ℕ) where
 
   pub length-at : length payload ≤ longest → wordAt (frame start second payload) 2 ≡ length payload
   unfolding wordAt frame covered word
-  length-at short = joined (length payload) (omega arith)
+  length-at short = whole-again (length payload) (omega arith)
 
-  data-length : length payload ≡ length (frame start second payload) - overhead
-  data-length = omega (arith, whole-length)
+  data-count : length payload ≡ length (frame start second payload) - overhead
+  data-count = omega (arith, whole-length)
 
   pub data-at : dataOf (frame start second payload) ≡ payload
   unfolding dataOf frame covered word
-  data-at = take-at payload _ _ data-length
+  data-at = take-at payload _ _ data-count
 
   pub covered-at : take (length payload + 4) (frame start second payload) ≡ covered second payload
   unfolding frame
@@ -50,4 +50,4 @@ module _ (start second : ℕ) (payload : List ℕ) where
 
   pub check-at : wordAt (frame start second payload) (length payload + 4) ≡ crc start (covered second payload)
   unfolding frame
-  check-at = rw (covered-length second payload) (behind (covered second payload) _ check-fits)
+  check-at = rw (covered-length second payload) (word-behind (covered second payload) _ check-fits)

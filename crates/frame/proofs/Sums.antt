@@ -1,4 +1,4 @@
--- A running value fits 16 bits, once one byte is done whatever it was before.
+-- A running value fits 16 bits. After one byte it does so whatever stood there before.
 use Prim.Native.Nat.{ℕ, zero, suc, _*_, _%_, _^_, _<_}
 use mathlib.Core.Bool.{Bool, true, false, cond}
 use mathlib.Core.List.{List, [], _∷_}

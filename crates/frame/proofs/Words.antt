@@ -1,4 +1,4 @@
--- Numbers of 16 bits in two bytes, and the two ends of a list.
+-- Numbers of 16 bits as two bytes, and the first four and the last two bytes of a message.
 use Prim.Native.Nat.{ℕ, suc, _+_, _*_, _/_, _%_, _^_, _≤_, _<_}
 use mathlib.Core.List.{List, [], _∷_, _++_}
 use mathlib.Core.Path.{_≡_, refl}
@@ -10,12 +10,12 @@ use lib.Seq.{drop-cons, getD-append-seam, getD-append-add}
 use Rattle.frame.specs.Frame.{word, wordAt}
 
 -- a number's two bytes make the number again
-pub joined : (number : ℕ) → number < 2 ^ 16 → number % 256 + 256 * (number / 256 % 256) ≡ number
-joined number fits = omega arith
+pub whole-again : (number : ℕ) → number < 2 ^ 16 → number % 256 + 256 * (number / 256 % 256) ≡ number
+whole-again number fits = omega arith
 
-pub behind : (front : List ℕ) (number : ℕ) → number < 2 ^ 16 → wordAt (front ++ word number) (length front) ≡ number
+pub word-behind : (front : List ℕ) (number : ℕ) → number < 2 ^ 16 → wordAt (front ++ word number) (length front) ≡ number
 unfolding wordAt word
-behind front number fits = rw (getD-append-seam, getD-append-add) (joined number fits)
+word-behind front number fits = rw (getD-append-seam, getD-append-add) (whole-again number fits)
 
 -- two bytes are those of the number that they make
 pub parted : (low high number : ℕ) → low < 256 → high < 256 → number ≡ low + 256 * high → word number ≡ low ∷ high ∷ []

@@ -1,5 +1,5 @@
--- Frames, from document 01, "A message and its reply": 0x2D, a second byte (the command, or in a reply the result), data length (2), data, CRC (2).
--- A frame is a list of bytes. The CRC's start value is an argument throughout.
+-- Document 01, "A message and its reply": frames. Messages and buffers are lists of bytes. The CRC's start value is an argument throughout.
+-- `-` is that of natural numbers: it stops at 0.
 use Prim.Native.Nat.{ℕ, _+_, _-_, _*_, _/_, _%_, _<_}
 use mathlib.Core.Bool.{cond, not}
 use mathlib.Core.List.{List, [], _∷_, _++_}
@@ -15,11 +15,11 @@ use Rattle.frame.specs.declared.Written.the-variants.{Frame, TooLong, No
 abbrev pub head : ℕ
 head = 0x2D
 
--- The bytes of a frame beside its data: head, second byte, data length and CRC.
+-- The bytes of a frame beside its data: head and second byte, two of data length, two of CRC.
 abbrev pub overhead : ℕ
 overhead = 6
 
--- The longest data that two bytes of length can say.
+-- As much data as two bytes of length can say.
 abbrev pub longest : ℕ
 longest = 65535
 
@@ -31,7 +31,7 @@ word number = number % 256 ∷ number / 256 % 256 ∷ []
 unfoldable pub wordAt : List ℕ → ℕ → ℕ
 wordAt bytes place = getD bytes place 0 + 256 * getD bytes (place + 1) 0
 
--- What the CRC covers: all before it.
+-- All of a frame before its CRC, which is worked out over just that. The second byte is the command, or in a reply the result.
 unfoldable pub covered : ℕ → List ℕ → List ℕ
 covered second payload = head ∷ second ∷ word (length payload) ++ payload
 
@@ -39,22 +39,22 @@ covered second payload = head ∷ second ∷ word (length payload) ++ payload
 unfoldable pub frame : ℕ → ℕ → List ℕ → List ℕ
 frame start second payload = covered second payload ++ word (crc start (covered second payload))
 
--- The data of a frame, from its fifth byte on: all but the first four bytes and the last two, and so nothing where there are fewer than six.
+-- The data of a frame starts at its fifth byte and ends before the CRC. Fewer than six bytes hold none.
 unfoldable pub dataOf : List ℕ → List ℕ
 dataOf bytes = take (length bytes - overhead) (drop 4 bytes)
 
--- What a message is as a frame: sound, with its second byte and its data's length, or spoiled, with the place where it went wrong.
--- Tested in this order: under six bytes, another head, not exactly its data length plus six, a wrong CRC.
+-- How a message reads as a frame: sound, with its second byte and how long its data is, or spoiled, with the place of the first test that fails:
+-- too short for a frame, or a head that is another, at 0; a length that does not go with the data length, at 2; a CRC that does not agree, where it stands.
 unfoldable pub reading : ℕ → List ℕ → Reading
 reading start bytes =
-    let check : ℕ = length bytes - 2 in
+    let place : ℕ = length bytes - 2 in
     cond (ltb (length bytes) overhead) (Spoiled 0)
     (cond (not (eqb (getD bytes 0 0) head)) (Spoiled 0)
     (cond (not (eqb (length bytes) (wordAt bytes 2 + overhead))) (Spoiled 2)
-    (cond (not (eqb (wordAt bytes check) (crc start (take check bytes)))) (Spoiled check)
+    (cond (not (eqb (wordAt bytes place) (crc start (take place bytes)))) (Spoiled place)
     (Sound (getD bytes 1 0) (length bytes - overhead)))))
 
--- Some bytes laid over the start of a buffer: the buffer's bytes past them are as they came.
+-- Some bytes laid over the start of a buffer: what the buffer holds past them is as it came.
 unfoldable pub laid : List ℕ → List ℕ → List ℕ
 laid bytes buffer = bytes ++ drop (length bytes) buffer
 
@@ -63,10 +63,11 @@ pub record Outcome : Type 0 where
   pub answer : Written
   pub buffer : List ℕ
 
+-- The two put together.
 abbrev pub outcome : Written → List ℕ → Outcome
 outcome answer buffer = record { answer = answer; buffer = buffer }
 
--- Writing the frame of a second byte and data into a buffer: its length, or a refusal that leaves the buffer as it was.
+-- Writing the frame of a second byte and data over a buffer: the frame's length, or a refusal that leaves the buffer as it was.
 unfoldable pub writing : ℕ → ℕ → List ℕ → List ℕ → Outcome
 writing start second payload buffer =
     cond (ltb longest (length payload)) (outcome TooLong buffer)

@@ -16,7 +16,7 @@ const HEAD: u8 = 0x2D;
 // The bytes of a frame beside its data: head, second byte, data length and CRC.
 const OVERHEAD: usize = 6;
 
-// The longest data that two bytes of length can say.
+// As much data as two bytes of length can say.
 const LONGEST: usize = 65535;
 
 // What a message is as a frame.
@@ -31,7 +31,7 @@ pub enum Reading {
 pub enum Written {
     // The frame stands at the start of the buffer, and this is its length.
     Frame(usize),
-    // Refused: the data is longer than a length field can say.
+    // Refused: two bytes of length cannot say how long the data is.
     TooLong,
     // Refused: the buffer is shorter than the frame.
     NoRoom,

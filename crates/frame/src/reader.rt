@@ -8,7 +8,7 @@ ghost use Prim.Native.Nat.{_+_, _*_, _<_};
 ghost use lib.ListN.{length};
 ghost use Rattle.frame.specs.Frame.{reading, dataOf, wordAt};
 
-// Reads a message as a frame. It works out the CRC once.
+// Reads a message as a frame, in one pass over it.
 pub fn read(start: u16, bytes: &[u8]) -> Reading
     ensures { λ r. ⌜ r ≡ reading start (now (bytes .entry)) ⌝ }
 {
@@ -22,9 +22,9 @@ pub fn read(start: u16, bytes: &[u8]) -> Reading
     if length != word_at(bytes, 2) as usize + OVERHEAD {
         return Reading::Spoiled { place: 2 };
     }
-    let check = length - 2;
-    if word_at(bytes, check) != crc(start, &bytes[..check]) {
-        return Reading::Spoiled { place: check };
+    let crc_place = length - 2;
+    if word_at(bytes, crc_place) != crc(start, &bytes[..crc_place]) {
+        return Reading::Spoiled { place: crc_place };
     }
     Reading::Sound {
         second: bytes[1],
@@ -32,7 +32,7 @@ pub fn read(start: u16, bytes: &[u8]) -> Reading
     }
 }
 
-// The data of a frame: a part of the lent slice, from its fifth byte on. Nothing where there are fewer than six bytes.
+// The data of a frame, lent on as a part of the caller's slice. Where there are fewer than six bytes the part is empty.
 pub fn data_of(frame: &[u8]) -> &[u8]
     ensures { λ r. ⌜ now r ≡ dataOf (now (frame .entry)) ⌝ }
 {

@@ -1,4 +1,4 @@
-// Writing a frame. One function serves requests and replies.
+// Writing a frame: what is a request and what a reply is for the caller to know.
 use crate::HEAD;
 use crate::LONGEST;
 use crate::OVERHEAD;
@@ -9,7 +9,7 @@ ghost use Prim.Native.Nat.{_+_, _≤_};
 ghost use lib.ListN.{length};
 ghost use Rattle.frame.specs.Frame.{frame, laid, longest, overhead, outcome, word, writing};
 
-// Writes the frame of a second byte and data. The buffer's bytes past the frame stay, and after a refusal all of them.
+// Writes the frame of a second byte and data over the start of a buffer. A refusal leaves every byte of it alone.
 pub fn write(start: u16, second: u8, payload: &[u8], buffer: &mut [u8]) -> Written
     ensures { λ r. ⌜ outcome r (now (buffer .exit)) ≡ writing start second (now (payload .entry)) (now (buffer .entry)) ⌝ }
 {
@@ -33,9 +33,9 @@ fn put(start: u16, second: u8, payload: &[u8], buffer: &mut [u8])
     let size = word(payload.len() as u16);
     bytes::copy(&[HEAD, second, size[0], size[1]], buffer);
     bytes::copy(payload, &mut buffer[4..]);
-    let end = payload.len() + 4;
-    let check = word(crc(start, &buffer[..end]));
-    bytes::copy(&check, &mut buffer[end..]);
+    let crc_place = payload.len() + 4;
+    let sum = word(crc(start, &buffer[..crc_place]));
+    bytes::copy(&sum, &mut buffer[crc_place..]);
 }
 
 // A number as it stands on the wire, low byte first.

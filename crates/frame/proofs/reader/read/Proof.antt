@@ -24,8 +24,8 @@ abbrev start : tie.Else3 → ℕ
 start c = c .before .before .before .before .before .before .args .start
 
 -- past the first three tests the CRC decides
-crc-decides : (c : tie.Else3) → let check = length (message c) - 2 in reading (start c) (message c)
-    ≡ cond (not (eqb (wordAt (message c) check) (crc (start c) (take check (message c))))) (Spoiled check) (Sound (getD (message c) 1 0) (length (message c) - overhead))
+crc-decides : (c : tie.Else3) → let place = length (message c) - 2 in reading (start c) (message c)
+    ≡ cond (not (eqb (wordAt (message c) place) (crc (start c) (take place (message c))))) (Spoiled place) (Sound (getD (message c) 1 0) (length (message c) - overhead))
 unfolding reading
 crc-decides c =
     let at-if2 = c .before .before in
@@ -67,8 +67,8 @@ returns-3 c =
       ne-eqb _ _ (c .if3 .taken),
     )
 
-sub-check : tie.Need-sub-check
-sub-check c = search needs
+sub-crc-place : tie.Need-sub-crc-place
+sub-crc-place c = search needs
 
 word-at-requires-2 : tie.Need-word-at-requires-2
 word-at-requires-2 c κs = search needs
@@ -105,7 +105,7 @@ read-spec =
     cast-if3
     add-if3
     returns-3
-    sub-check
+    sub-crc-place
     word-at-requires-2
     slice-aggregate-crc
     crc-requires

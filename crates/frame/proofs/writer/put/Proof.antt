@@ -33,10 +33,10 @@ behind first part buffer had got place before here copied =
       append-assoc,
     ))
 
--- What the CRC is asked over: all that is laid.
-front : (bytes buffer had : List ℕ) (n : ℕ) → had ≡ laid bytes buffer → n ≡ length bytes → take n had ≡ bytes
+-- The CRC is worked out over all that is laid by then.
+laid-so-far : (bytes buffer had : List ℕ) (n : ℕ) → had ≡ laid bytes buffer → n ≡ length bytes → take n had ≡ bytes
 unfolding laid
-front bytes buffer had n before all = rw (before, all) (take-append-seam _ _)
+laid-so-far bytes buffer had n before all = rw (before, all) (take-append-seam _ _)
 
 -- where the function began
 abbrev start-of : tie.After-copy → tie.Start
@@ -70,7 +70,7 @@ data-laid c =
 
 -- and the CRC is worked out over all before it
 covered-front : (c : tie.After-copy2) → let s = start-of (c .before .before .before .before) in take (length (payload s) + 4) (data-in c) ≡ covered (s .args .second) (payload s)
-covered-front c = front _ _ _ _ (data-laid c) (covered-length _ _)
+covered-front c = laid-so-far _ _ _ _ (data-laid c) (covered-length _ _)
 
 cast-word : tie.Need-cast-word
 cast-word c = search needs
@@ -102,8 +102,8 @@ part-copy-end c = search needs
 copy-requires-2 : tie.Need-copy-requires-2
 copy-requires-2 c κs = search needs
 
-add-end : tie.Need-add-end
-add-end c = search needs
+add-crc-place : tie.Need-add-crc-place
+add-crc-place c = search needs
 
 slice-reshare-prefix-crc : tie.Need-slice-reshare-prefix-crc
 slice-reshare-prefix-crc c = search needs
@@ -145,7 +145,7 @@ returns c =
     let s = start-of (at-copy2 .before .before .before .before) in
     let sum : at-crc .crc .result ≡ crc (s .args .start) (covered (s .args .second) (payload s)) = at-crc .crc .ensures ∙ ap (crc (s .args .start)) (covered-front at-copy2) in
     behind _ _ _ _ _ _ (data-laid at-copy2) (covered-length _ _) (at-copy3 .copy3 .ensures .1)
-    ∙ ap (λ (check : List ℕ). laid (covered (s .args .second) (payload s) ++ check) (came s)) (at-word2 .word2 .ensures ∙ ap word sum)
+    ∙ ap (λ (end : List ℕ). laid (covered (s .args .second) (payload s) ++ end) (came s)) (at-word2 .word2 .ensures ∙ ap word sum)
 
 pub put-spec : {M : Type 1} → statement M
 put-spec =
@@ -161,7 +161,7 @@ put-spec =
     part-copy-start
     part-copy-end
     copy-requires-2
-    add-end
+    add-crc-place
     slice-reshare-prefix-crc
     slice-aggregate-crc
     crc-requires

@@ -1,9 +1,9 @@
--- `edges::wire::changed` reads only within the slice, and ends at its end.
+-- `edges::wire::other_than` reads only within the slice, and ends at its end.
 use Prim.Native.Nat.{_-_, _≤_}
 use lib.ListN.{length}
 use borrow.Author.Needs.{needs}
-use Rattle.edges.proofs.wire.changed.Statement.{statement}
-use Rattle.edges.proofs.wire.changed.Tie as tie
+use Rattle.edges.proofs.wire.other_than.Statement.{statement}
+use Rattle.edges.proofs.wire.other_than.Tie as tie
 
 abbrev Inv-loop : tie.InvT-loop
 Inv-loop buffer fill count₀ i₀ count i = i ≤ length buffer
@@ -32,8 +32,8 @@ loop-again c = search needs
 returns : tie.Need-returns Inv-loop μ-loop
 returns c = search needs
 
-pub changed-spec : {M : Type 1} → statement M
-changed-spec =
+pub other-than-spec : {M : Type 1} → statement M
+other-than-spec =
     tie.close
     (tie.spec
     Inv-loop
