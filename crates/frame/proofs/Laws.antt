@@ -4,11 +4,11 @@
 --     written, too-long, no-room             which answer the writer gives, and what it leaves of the buffer
 --     answered                               the other way round: what is known where it answers with a length
 --     written-is-read, answered-is-read      a frame reads as sound, with the second byte and the data that it was made of
---     read-was-written, read-once            a sound frame is the frame of its second byte and its data, so no two messages read alike
+--     read-was-written, read-once            a sound frame is the frame of its second byte and its data, and the only one
 --     length-message, length-data, short-data, length-frame     lengths
 --     frame-bytes, data-bytes                frames and their data are made of bytes
 -- Assumes nothing.
-use Prim.Native.Nat.{ℕ, _+_, _-_, _^_, _≤_, _<_}
+use Prim.Native.Nat.{ℕ, _+_, _-_, _≤_, _<_}
 use mathlib.Core.List.{List, [], _∷_, _++_}
 use mathlib.Core.Path.{_≡_, refl, sym, ap, _∙_}
 use native.Mathlib.Omega.{arith}
@@ -24,7 +24,8 @@ use Rattle.frame.proofs.Answered
 use Rattle.frame.proofs.Bytes
 use Rattle.frame.proofs.Passed
 use Rattle.frame.proofs.Places
-use Rattle.frame.proofs.Sums
+pub use Rattle.frame.proofs.Places.{length-frame}
+pub use Rattle.frame.proofs.Sums.{crc-fits}
 
 -- ---- the CRC
 
@@ -32,9 +33,6 @@ pub carried-on : (value : ℕ) (first second : List ℕ) → crc value (first ++
 unfolding crc
 carried-on value [] second = refl
 carried-on value (byte ∷ first) second = carried-on (byteDone value byte) first second
-
-pub crc-fits : (value : ℕ) (bytes : List ℕ) → value < 2 ^ 16 → crc value bytes < 2 ^ 16
-crc-fits = Sums.sum-fits
 
 -- ---- something laid over a buffer
 
@@ -83,9 +81,6 @@ module _ (start second : ℕ) (payload buffer : List ℕ) where
 
 -- ---- what is written is read back
 
-pub length-frame : (start second : ℕ) (payload : List ℕ) → length (frame start second payload) ≡ length payload + overhead
-length-frame = Places.whole-length
-
 pub written-is-read : (start second : ℕ) (payload : List ℕ) → length payload ≤ longest
     → (reading start (frame start second payload) ≡ Sound second (length payload)) × (dataOf (frame start second payload) ≡ payload)
 unfolding reading
@@ -95,7 +90,7 @@ written-is-read start second payload short =
     let rest : n + 6 - 6 ≡ n = omega arith in
     let whole : 6 ≤ n + 6 = omega arith in (
       simp (
-        Places.whole-length start second payload,
+        length-frame start second payload,
         check,
         rest,
         Places.head-at start second payload,

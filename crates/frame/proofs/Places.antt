@@ -7,7 +7,7 @@ use lib.ListN.{length, take, getD, length-append}
 use lib.Seq.{take-at}
 use Rattle.frame.specs.Crc.{byteDone, crc}
 use Rattle.frame.specs.Frame.{head, overhead, longest, word, wordAt, covered, frame, dataOf}
-use Rattle.frame.proofs.Sums.{byte-fits, sum-fits}
+use Rattle.frame.proofs.Sums.{byte-fits, crc-fits}
 use Rattle.frame.proofs.Words.{whole-again, word-behind}
 
 -- The CRC stands behind four bytes and the data.
@@ -16,14 +16,14 @@ unfolding covered word
 covered-length second payload = omega arith
 
 module _ (start second : ℕ) (payload : List ℕ) where
-  pub whole-length : length (frame start second payload) ≡ length payload + overhead
+  pub length-frame : length (frame start second payload) ≡ length payload + overhead
   unfolding frame covered word
-  whole-length = simp length-append (omega arith)
+  length-frame = simp length-append (omega arith)
 
   check-fits : crc start (covered second payload) < 2 ^ 16
   unfolding crc covered
   check-fits =
-      sum-fits (byteDone start head) (second ∷ word (length payload) ++ payload) (byte-fits start head)
+      crc-fits (byteDone start head) (second ∷ word (length payload) ++ payload) (byte-fits start head)
 
   pub head-at : getD (frame start second payload) 0 0 ≡ head
   unfolding frame covered
@@ -38,7 +38,7 @@ module _ (start second : ℕ) (payload : List ℕ) where
   length-at short = whole-again (length payload) (omega arith)
 
   data-count : length payload ≡ length (frame start second payload) - overhead
-  data-count = omega (arith, whole-length)
+  data-count = omega (arith, length-frame)
 
   pub data-at : dataOf (frame start second payload) ≡ payload
   unfolding dataOf frame covered word

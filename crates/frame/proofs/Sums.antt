@@ -26,7 +26,7 @@ pub byte-fits : (value byte : ℕ) → byteDone value byte < 2 ^ 16
 unfolding byteDone bitsDone
 byte-fits value byte = bits-fit 7 _ (bit-fits _)
 
-pub sum-fits : (value : ℕ) (bytes : List ℕ) → value < 2 ^ 16 → crc value bytes < 2 ^ 16
+pub crc-fits : (value : ℕ) (bytes : List ℕ) → value < 2 ^ 16 → crc value bytes < 2 ^ 16
 unfolding crc
-sum-fits value [] fits = fits
-sum-fits value (byte ∷ bytes) fits = sum-fits (byteDone value byte) bytes (byte-fits value byte)
+crc-fits value [] fits = fits
+crc-fits value (byte ∷ bytes) fits = crc-fits (byteDone value byte) bytes (byte-fits value byte)

@@ -2,7 +2,7 @@
 use Prim.Native.Nat.{ℕ, _-_}
 use mathlib.Core.Bool.{cond, not}
 use mathlib.Core.List.{List}
-use mathlib.Core.Path.{_≡_, sym}
+use mathlib.Core.Path.{_≡_, sym, ap₂}
 use denote.Ref.{now}
 use lib.Dec.{eqb}
 use lib.ListN.{length, take, getD}
@@ -35,6 +35,11 @@ crc-decides c =
       ← c .before .word-at .ensures,
       eq-eqb _ _ (c .if3 .left),
     )
+
+-- what the code compares is what the definition compares
+compared : (c : tie.After-crc) → let s = c .before .before .before in let place = length (message s) - 2 in
+    eqb (wordAt (message s) place) (crc (start s) (take place (message s))) ≡ eqb (c .before .before .word-at2 .result) (c .crc .result)
+compared c = ap₂ eqb (sym (c .before .before .word-at2 .ensures)) (sym (c .crc .ensures))
 
 returns : tie.Need-returns
 unfolding reading
@@ -82,8 +87,7 @@ crc-requires c κs = search needs
 returns-4 : tie.Need-returns-4
 returns-4 c =
     let at-crc = c .before in
-    let at-word-at2 = at-crc .before .before in
-    rw (crc-decides (at-word-at2 .before)) (simp (← at-word-at2 .word-at2 .ensures, ← at-crc .crc .ensures, ne-eqb _ _ (c .if4 .taken)))
+    rw (crc-decides (at-crc .before .before .before), compared at-crc, ne-eqb _ _ (c .if4 .taken))
 
 shared-slice-read-t7 : tie.Need-shared-slice-read-t7
 shared-slice-read-t7 c = search needs
@@ -91,8 +95,7 @@ shared-slice-read-t7 c = search needs
 returns-5 : tie.Need-returns-5
 returns-5 c =
     let at-crc = c .before .before in
-    let at-word-at2 = at-crc .before .before in
-    rw (crc-decides (at-word-at2 .before)) (simp (← at-word-at2 .word-at2 .ensures, ← at-crc .crc .ensures, eq-eqb _ _ (c .before .if4 .left)))
+    rw (crc-decides (at-crc .before .before .before), compared at-crc, eq-eqb _ _ (c .before .if4 .left))
 
 pub read-spec : {M : Type 1} → statement M
 read-spec =
