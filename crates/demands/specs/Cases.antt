@@ -1,0 +1,59 @@
+-- A worked case: what is sent to which device, and all that must come of it. And the devices that the cases start on, put together here apart from the definitions under trial.
+use Prim.Native.Nat.{ℕ}
+use mathlib.Core.List.{List, [], _∷_, _++_}
+use lib.ListN.{take, drop, replicate}
+use Rattle.tm32.specs.Device.{Device, deviceOf, sessionOf}
+use Rattle.tm32.specs.Fresh.{freshSettings}
+use Rattle.tm32.specs.Respond.{Answered, answered, respond}
+use Rattle.tm32.specs.declared.Link.the-variants.{Uart}
+use Rattle.tm32.specs.declared.State.{State}
+
+-- The device, the messages that prepare it, the message that is tried, the whole reply to it, and the whole device afterwards.
+pub record Case : Type 0 where
+  pub device : Device
+  pub before : List (List ℕ)
+  pub message : List ℕ
+  pub reply : List ℕ
+  pub after : Device
+
+-- The five put together.
+abbrev pub case : Device → List (List ℕ) → List ℕ → List ℕ → Device → Case
+case device before message reply after = record { device = device; before = before; message = message; reply = reply; after = after }
+
+-- A device after some messages.
+unfoldable pub prepared : Device → List (List ℕ) → Device
+prepared device [] = device
+prepared device (message ∷ rest) = prepared (respond freshSettings device message .device) rest
+
+-- What the definitions say of each case, and what is right.
+unfoldable pub given : List Case → List Answered
+given [] = []
+given (one ∷ rest) = respond freshSettings (prepared (one .device) (one .before)) (one .message) ∷ given rest
+
+unfoldable pub right : List Case → List Answered
+right [] = []
+right (one ∷ rest) = answered (one .after) (one .reply) ∷ right rest
+
+-- The 22 bytes of a message that writes the options.
+abbrev pub sent : List ℕ → List ℕ
+sent message = take 22 (drop 4 message)
+
+-- A device on UART at rate code 0x0A, with RAM all nought, in a state, with a flash, and with option bytes in an NVR that is nought otherwise.
+abbrev pub onBench : State → List ℕ → List ℕ → Device
+onBench state flash options = deviceOf (sessionOf state Uart 0x0A) flash (replicate 9216 0) (replicate 2048 0 ++ options ++ replicate 4074 0)
+
+-- A blank flash, as on the fresh device.
+abbrev pub blankFlash : List ℕ
+blankFlash = replicate 32768 0xFF
+
+-- A flash with a byte at the start of page 1, and blank otherwise.
+abbrev pub oneByte : ℕ → List ℕ
+oneByte byte = replicate 1024 0xFF ++ byte ∷ replicate 31743 0xFF
+
+-- The first 31 pages full of 0x5A, with two other bytes: one at the start of page 1, and 0x44 at the end of page 4.
+abbrev pub fullPages : ℕ → List ℕ
+fullPages byte = replicate 1024 0x5A ++ byte ∷ replicate 4094 0x5A ++ 0x44 ∷ replicate 26624 0x5A
+
+-- A full flash: the same, with page 31 full of 0x5A up to its last byte, which is 0x3C.
+abbrev pub fullFlash : ℕ → List ℕ
+fullFlash byte = fullPages byte ++ replicate 1023 0x5A ++ 0x3C ∷ []

@@ -1,0 +1,117 @@
+-- What the definitions say where document 01 gives an example or a bound, worked out by the checker: protected pages, rates, words of Get, refusals 1 to 5, the messages that
+-- touch the option bytes, and a short run.
+use Prim.Native.Nat.{ℕ, zero, suc, _+_}
+use mathlib.Core.Bool.{Bool, true, false, cond}
+use mathlib.Core.List.{List, [], _∷_, _++_, map}
+use mathlib.Core.Path.{_≡_, refl}
+use lib.ListN.{replicate}
+use Rattle.frame.specs.Crc.{bitDone, bitsDone, byteDone, crc, polynomial, shifted}
+use Rattle.frame.specs.Frame.{covered, dataOf, frame, laid, reading, word, wordAt}
+use Rattle.memory.specs.Pages.{covers}
+use Rattle.memory.specs.Ranges.{within}
+use Rattle.memory.specs.Stores.{replaced, same}
+use Rattle.tm32.specs.After.{Told, after, lay, lendings, refused, reply, tell}
+use Rattle.tm32.specs.Checks.{checks, isLength, protections, verdict}
+use Rattle.tm32.specs.Device.{Device, deviceOf, sessionOf, withFlash, withNvr, withRam, withSession}
+use Rattle.tm32.specs.Fresh.{freshDevice, freshFlash, freshNvr, freshOptions, freshRam, freshSettings}
+use Rattle.tm32.specs.Map.{inNvr, pageCount}
+use Rattle.tm32.specs.OptionMessages.{isTalking, optionMessage, readsOptions, touchesOptions}
+use Rattle.tm32.specs.Options.{inEither, rdpOn, underPcrop, underWrp}
+use Rattle.tm32.specs.Rates.{bitsPerSecond, isRate, rates}
+use Rattle.tm32.specs.Request.{exactly, longAt, readAs, requestIn, requestOf}
+use Rattle.tm32.specs.Respond.{greet, refuse, replyTo, respond, respondIn, serve, verdictOn}
+use Rattle.tm32.specs.Run.{message, restarted, run}
+use Rattle.tm32.specs.Work.{commandWord, spi1, toldCommands, uart1, uart2, work}
+use Rattle.tm32.specs.declared.Answer.the-variants.{Reply}
+use Rattle.tm32.specs.declared.Link.the-variants.{Spi, Uart}
+use Rattle.tm32.specs.declared.State.the-variants.{Talking, Waiting}
+use Rattle.demands.specs.Wire.{done, handshake, heartBeat, optionsRdpOff, readBeforeOptions, readBehindOptions, readIntoOptions, readLastOption, readOptions, readTooMuchOfOptions, refused80}
+
+-- Which of so many pages pass a test.
+unfoldable pub passing : (ℕ → Bool) → ℕ → List ℕ
+passing test zero = []
+passing test (suc page) = passing test page ++ cond (test page) (page ∷ []) []
+
+-- Both ends of a range are in, pages past the last are not, and a start above the end protects nothing.
+range-30-to-200 : passing (covers pageCount 30 200) 256 ≡ 30 ∷ 31 ∷ []
+unfolding passing covers
+range-30-to-200 = refl
+
+range-6-to-5 : passing (covers pageCount 6 5) 256 ≡ []
+unfolding passing covers
+range-6-to-5 = refl
+
+-- Option bytes with every bit set that means nothing: RDP 0xAA, PCROP 5 to 5 and 30 to 200, WRP 0 to 1 and 7 to 6.
+unfoldable pub crowded : List ℕ
+crowded =
+    0xAA ∷ 0xFF ∷ 0xFF ∷ 0xFF
+    ∷ 5 ∷ 0xFF ∷ 5 ∷ 0xFF ∷ 30 ∷ 0xFF ∷ 200 ∷ 0xFF
+    ∷ 0 ∷ 0xFF ∷ 1 ∷ 0xFF ∷ 7 ∷ 0xFF ∷ 6 ∷ 0xFF
+    ∷ 0xFF ∷ 0xFF ∷ []
+
+pages-under-pcrop : passing (underPcrop crowded) 256 ≡ 5 ∷ 30 ∷ 31 ∷ []
+unfolding passing crowded inEither covers
+pages-under-pcrop = refl
+
+pages-under-wrp : passing (underWrp crowded) 256 ≡ 0 ∷ 1 ∷ []
+unfolding passing crowded inEither covers
+pages-under-wrp = refl
+
+-- 0xAA alone is off.
+only-0xAA-is-off : map rdpOn (crowded ∷ (0x55 ∷ []) ∷ (0x00 ∷ []) ∷ (0xAB ∷ []) ∷ []) ≡ false ∷ true ∷ true ∷ true ∷ []
+unfolding crowded rdpOn
+only-0xAA-is-off = refl
+
+-- Codes 0x00, 0x01, 0x0A, 0x10 and 0x11.
+rates-at-the-ends : map bitsPerSecond (0x00 ∷ 0x01 ∷ 0x0A ∷ 0x10 ∷ 0x11 ∷ []) ≡ 0 ∷ 2400 ∷ 115200 ∷ 1382400 ∷ 0 ∷ []
+unfolding bitsPerSecond isRate rates
+rates-at-the-ends = refl
+
+-- The two words of Get that 01 gives.
+commands-told : commandWord ≡ 0x000001FF
+unfolding commandWord toldCommands
+commands-told = refl
+
+links-told : uart1 + uart2 + spi1 ≡ 0x0000000B
+links-told = refl
+
+-- All five reasons to refuse at once, then one fewer each time: the numbers come in order, and 0 where there is none.
+lent : List ℕ → List ℕ → List ℕ → ℕ → Device
+lent flash ram nvr rate = deviceOf (sessionOf Talking Uart rate) flash ram nvr
+
+refusals-in-order :
+    verdict 0 (lendings (lent [] [] [] 0) 1029)
+    ∷ verdict 0 (lendings (lent freshFlash [] [] 0) 1029)
+    ∷ verdict 0 (lendings (lent freshFlash freshRam [] 0) 1029)
+    ∷ verdict 0 (lendings (lent freshFlash freshRam freshNvr 0) 1029)
+    ∷ verdict 0 (lendings (lent freshFlash freshRam freshNvr 0) 1030)
+    ∷ verdict 0 (lendings (lent freshFlash freshRam freshNvr 0x10) 1030)
+    ∷ []
+    ≡ 1 ∷ 2 ∷ 3 ∷ 4 ∷ 5 ∷ 0 ∷ []
+unfolding lent verdict lendings isRate freshFlash freshRam freshNvr freshOptions replaced word
+refusals-in-order = refl
+
+-- What reads or writes the option bytes of a device that Talks: 0x31, 0x32, and a Read that touches them. A Read beside them does not, nor one that is too long to be served.
+touching-the-options :
+    map (optionMessage (withSession freshDevice (sessionOf Talking Uart 0x0A)))
+    (optionsRdpOff ∷ readOptions ∷ readBeforeOptions ∷ readIntoOptions ∷ readLastOption ∷ readBehindOptions ∷ readTooMuchOfOptions ∷ heartBeat ∷ [])
+    ≡ true ∷ true ∷ false ∷ true ∷ true ∷ false ∷ false ∷ false ∷ []
+unfolding freshDevice optionMessage isTalking touchesOptions readsOptions isLength inNvr within requestIn readAs requestOf exactly longAt reading wordAt dataOf crc byteDone bitsDone bitDone shifted polynomial
+touching-the-options = refl
+
+-- A device that Waits reads none of them.
+nothing-while-waiting : map (optionMessage freshDevice) (optionsRdpOff ∷ readOptions ∷ readIntoOptions ∷ []) ≡ false ∷ false ∷ false ∷ []
+unfolding freshDevice optionMessage isTalking
+nothing-while-waiting = refl
+
+-- A handshake, a heart beat with too little room, one with enough, and one more after a restart on SPI.
+a-short-run :
+    run freshSettings freshDevice (message handshake 1030 ∷ message heartBeat 1029 ∷ message heartBeat 1030 ∷ restarted Spi ∷ message heartBeat 1030 ∷ []) .told
+    ≡ reply (0x79 ∷ []) ∷ refused 4 ∷ reply done ∷ reply refused80 ∷ []
+unfolding run tell lendings verdict isRate respond respondIn greet serve replyTo refuse verdictOn checks protections work requestIn readAs requestOf exactly reading wordAt dataOf frame covered word crc byteDone bitsDone bitDone shifted polynomial same freshDevice freshFlash freshRam freshNvr freshOptions replaced
+a-short-run = refl
+
+-- The reply lies over the start of the buffer, and the rest of it is as it came.
+rest-of-the-buffer : after freshSettings freshDevice handshake (replicate 1040 0x11) .buffer ≡ 0x79 ∷ replicate 1039 0x11
+unfolding after lay laid tell lendings verdict isRate respond respondIn greet same freshDevice freshFlash freshRam freshNvr freshOptions replaced word
+rest-of-the-buffer = refl

@@ -1,0 +1,8 @@
+-- What follows from the definitions: the laws that callers go by, and the lemmas below them.
+pub mod Laws
+mod Gathered
+mod Parts
+mod Programming
+mod Quotients
+mod Runs
+mod Storing

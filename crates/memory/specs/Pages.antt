@@ -1,0 +1,32 @@
+-- Document 01, "Who may touch which page": the pages that a range touches, and ranges of page numbers that protect. The size of a page and the count of pages are arguments.
+use Prim.Native.Nat.{ℕ, zero, suc, _+_, _-_, _/_}
+use mathlib.Core.Bool.{Bool, false, cond, _&&_, _||_}
+use lib.Dec.{leb, ltb, eqb}
+use Rattle.memory.specs.declared.PageRun.{PageRun}
+
+-- So many pages from the first on.
+abbrev pub pages : ℕ → ℕ → PageRun
+pages first count = record { first = first; count = count }
+
+-- The pages that so many bytes from a place on touch: from the page of the first byte to that of the last. Without a byte, or with pages of no length, none.
+unfoldable pub touched : ℕ → ℕ → ℕ → PageRun
+touched size place count =
+    cond (eqb size 0 || eqb count 0) (pages 0 0)
+    (pages (place / size) ((place + count - 1) / size - place / size + 1))
+
+-- Whether some of so many pages, from the first on, pass a test.
+unfoldable pub someOf : (ℕ → Bool) → ℕ → ℕ → Bool
+someOf test first zero = false
+someOf test first (suc count) = test first || someOf test (first + 1) count
+
+-- Whether some page of a run passes a test.
+unfoldable pub some : (ℕ → Bool) → PageRun → Bool
+some test run = someOf test (run .first) (run .count)
+
+-- Whether a range of page numbers covers a page of a chip that has so many pages. Both ends are in; where the start is above the end nothing is; a page that the chip does not have never is.
+unfoldable pub covers : ℕ → ℕ → ℕ → ℕ → Bool
+covers pageCount start end page = ltb page pageCount && (leb start page && leb page end)
+
+-- Whether such a range covers some page of a run.
+unfoldable pub meets : ℕ → ℕ → ℕ → PageRun → Bool
+meets pageCount start end run = some (covers pageCount start end) run

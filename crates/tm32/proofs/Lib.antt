@@ -1,0 +1,2 @@
+-- Lemmas that several of the crate's proofs share.
+mod Either

@@ -1,0 +1,26 @@
+-- `tm32::options::range_meets` meets its contract: the two bytes that are handed on are the definition's.
+use mathlib.Core.Path.{_∙_}
+use borrow.Author.Needs.{needs}
+use Rattle.memory.specs.Pages.{meets}
+use Rattle.tm32.proofs.options.range_meets.Statement.{statement}
+use Rattle.tm32.proofs.options.range_meets.Tie as tie
+
+low-byte-requires : tie.Need-low-byte-requires
+low-byte-requires c κs = search needs
+
+add-low-byte : tie.Need-add-low-byte
+add-low-byte c = search needs
+
+low-byte-requires-2 : tie.Need-low-byte-requires-2
+low-byte-requires-2 c κs = search needs
+
+meets-requires : tie.Need-meets-requires
+meets-requires c κs = search needs
+
+returns : tie.Need-returns
+unfolding meets
+returns c = c .meets .ensures ∙ cc
+
+pub range-meets-spec : {M : Type 1} → statement M
+range-meets-spec =
+    tie.close (tie.spec low-byte-requires add-low-byte low-byte-requires-2 meets-requires returns)

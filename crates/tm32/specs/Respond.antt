@@ -1,0 +1,67 @@
+-- Document 01, "A message and its reply": what a device does with a message, and what it replies. Lent buffers come later, in `After`.
+use Prim.Native.Nat.{ℕ}
+use mathlib.Core.Bool.{cond}
+use mathlib.Core.List.{List, [], _∷_, _++_}
+use lib.Dec.{eqb}
+use lib.ListN.{length}
+use Rattle.frame.specs.Frame.{dataOf, frame}
+use Rattle.memory.specs.Stores.{same}
+use Rattle.tm32.specs.Checks.{checks, protections, verdict}
+use Rattle.tm32.specs.Device.{Device, inState, withSession}
+use Rattle.tm32.specs.Options.{optionBytes}
+use Rattle.tm32.specs.Request.{crcStart, requestIn}
+use Rattle.tm32.specs.Results.{noHandshake, workDone}
+use Rattle.tm32.specs.Work.{Worked, work}
+use Rattle.tm32.specs.declared.Request.{Request}
+use Rattle.tm32.specs.declared.Settings.{Settings}
+use Rattle.tm32.specs.declared.State.{State}
+use Rattle.tm32.specs.declared.State.the-variants.{Waiting, Talking, Gone}
+
+-- What comes of a message: the device afterwards, and the reply.
+pub record Answered : Type 0 where
+  pub device : Device
+  pub reply : List ℕ
+
+-- The two put together.
+abbrev pub answered : Device → List ℕ → Answered
+answered device reply = record { device = device; reply = reply }
+
+-- The byte that a host shakes hands with, and the byte that answers it.
+abbrev pub hello : List ℕ
+hello = 0x7F ∷ []
+
+abbrev pub helloBack : List ℕ
+helloBack = 0x79 ∷ []
+
+-- A refusal is a frame with its number and no data, and changes nothing.
+unfoldable pub refuse : Device → ℕ → Answered
+refuse device number = answered device (frame crcStart number [])
+
+-- What the checks and protection say of a request.
+unfoldable pub verdictOn : Device → Request → ℕ
+verdictOn device request =
+    verdict workDone (checks (device .session .link) request ++ protections (optionBytes (device .nvr)) request)
+
+-- The reply to work.
+unfoldable pub replyTo : Worked → Answered
+replyTo done = answered (done .device) (frame crcStart (done .result) (done .payload))
+
+-- A request with its data: refused by the first check that fails, or else worked on.
+unfoldable pub serve : Settings → Device → List ℕ → Request → Answered
+serve settings device payload request =
+    let number : ℕ = verdictOn device request in
+    cond (eqb number workDone) (replyTo (work settings device payload request)) (refuse device number)
+
+-- The handshake: the session is Talking, with its link and rate as they were.
+unfoldable pub greet : Device → Answered
+greet device = answered (withSession device (inState (device .session) Talking)) helloBack
+
+-- A message that is not empty: Gone answers nothing; the handshake is answered in Waiting and Talking; anything else is refused in Waiting and read in Talking.
+unfoldable pub respondIn : State → Settings → Device → List ℕ → Answered
+respondIn Waiting settings device message = cond (same message hello) (greet device) (refuse device noHandshake)
+respondIn Talking settings device message = cond (same message hello) (greet device) (serve settings device (dataOf message) (requestIn message))
+respondIn (Gone address) settings device message = answered device []
+
+-- The answer to a message. An empty one draws an empty reply.
+unfoldable pub respond : Settings → Device → List ℕ → Answered
+respond settings device message = cond (eqb (length message) 0) (answered device []) (respondIn (device .session .state) settings device message)

@@ -1,0 +1,124 @@
+-- Document 01, "The ten commands" and "Who may touch which page": what an accepted request does.
+use Prim.Native.Nat.{ℕ, zero, suc, _-_, _*_, _/_, _^_}
+use mathlib.Core.Bool.{Bool, cond, not, _&&_}
+use mathlib.Core.List.{List, [], _∷_, _++_}
+use lib.Dec.{eqb}
+use lib.ListN.{length, drop, replicate}
+use Rattle.frame.specs.Crc.{crc}
+use Rattle.frame.specs.Frame.{word}
+use Rattle.memory.specs.Stores.{kept, replaced, same}
+use Rattle.tm32.specs.Device.{Device, atRate, bytesAt, deviceOf, inState, withFlash, withNvr, withRam, withSession}
+use Rattle.tm32.specs.Map.{blank, flashStart, inFlash, inRam, nvrStart, optionsStart, pageCount, pageSize, ramStart}
+use Rattle.tm32.specs.Options.{optionBytes, rdpOn}
+use Rattle.tm32.specs.Request.{crcStart}
+use Rattle.tm32.specs.Results.{readbackDiffers, workDone, wrongShape, wrongSum}
+use Rattle.tm32.specs.declared.Request.{Request}
+use Rattle.tm32.specs.declared.Request.the-variants.{Pps, Get, Read, Write, MemoryCrc, Erase, Go, WriteOptions, ReadOptions, HeartBeat, Misshapen}
+use Rattle.tm32.specs.declared.Settings.{Settings}
+use Rattle.tm32.specs.declared.State.the-variants.{Gone}
+
+-- What comes of work: the result, the reply's data, and the device afterwards.
+pub record Worked : Type 0 where
+  pub result : ℕ
+  pub payload : List ℕ
+  pub device : Device
+
+-- The three put together.
+abbrev pub worked : ℕ → List ℕ → Device → Worked
+worked result payload device = record { result = result; payload = payload; device = device }
+
+-- Get tells which commands there are: a bit for each of these, from bit 0 on. Heart beat has none.
+unfoldable pub toldCommands : List ℕ
+toldCommands = 0x01 ∷ 0x11 ∷ 0x12 ∷ 0x13 ∷ 0x14 ∷ 0x21 ∷ 0x31 ∷ 0x32 ∷ 0x00 ∷ []
+
+-- All of those bits.
+unfoldable pub commandWord : ℕ
+commandWord = 2 ^ length toldCommands - 1
+
+-- The bits of the link word, from bit 0 on. It is a setting, and is sent as it is given.
+abbrev pub uart1 : ℕ
+uart1 = 2 ^ 0
+
+abbrev pub uart2 : ℕ
+uart2 = 2 ^ 1
+
+abbrev pub uart3 : ℕ
+uart3 = 2 ^ 2
+
+abbrev pub spi1 : ℕ
+spi1 = 2 ^ 3
+
+abbrev pub spi2 : ℕ
+spi2 = 2 ^ 4
+
+abbrev pub i2c1 : ℕ
+i2c1 = 2 ^ 5
+
+abbrev pub i2c2 : ℕ
+i2c2 = 2 ^ 6
+
+-- A number of 32 bits as it stands on the wire, low byte first.
+unfoldable pub long : ℕ → List ℕ
+long number = word number ++ word (number / 0x10000)
+
+-- The 24 bytes of Get: version, serial, package, model, commands, links.
+unfoldable pub information : Settings → List ℕ
+information settings =
+    settings .version ++ settings .serial ++ settings .«package» ∷ settings .model ∷ long commandWord ++ long (settings .links)
+
+-- Write: a flash byte can only lose bits; RAM and NVR take the bytes as they are.
+unfoldable pub written : Device → ℕ → List ℕ → Device
+written device address bytes =
+    cond (inFlash address (length bytes))
+    (withFlash device (replaced (device .flash) (address - flashStart) (kept (device .flash) (address - flashStart) bytes)))
+    (cond (inRam address (length bytes)) (withRam device (replaced (device .ram) (address - ramStart) bytes))
+    (withNvr device (replaced (device .nvr) (address - nvrStart) bytes)))
+
+-- The result of a write: with flag 1, whether each byte is now what was sent. What was written stays either way.
+unfoldable pub readback : ℕ → ℕ → List ℕ → Device → ℕ
+readback flag address bytes after =
+    cond (eqb flag 1 && not (same (bytesAt after address (length bytes)) bytes)) readbackDiffers workDone
+
+-- Memory CRC: the frame's own CRC over the range, against the one that was sent.
+unfoldable pub compared : Device → ℕ → ℕ → ℕ → ℕ
+compared device address count sum = cond (eqb (crc crcStart (bytesAt device address count)) sum) workDone wrongSum
+
+-- Erase: so many pages from the first on become blank.
+unfoldable pub erased : List ℕ → ℕ → ℕ → List ℕ
+erased flash first count = replaced flash (first * pageSize) (replicate (count * pageSize) blank)
+
+-- Whether writing new options over old ones wipes a page: each page, where read protection goes from on to off. Write protection spares none.
+unfoldable pub wipes : List ℕ → List ℕ → ℕ → Bool
+wipes old new page = rdpOn old && not (rdpOn new)
+
+-- The flash with those of its first pages erased that writing the options wipes.
+unfoldable pub wiped : List ℕ → List ℕ → ℕ → List ℕ → List ℕ
+wiped old new zero flash = flash
+wiped old new (suc page) flash =
+    let rest : List ℕ = wiped old new page flash in
+    cond (wipes old new page) (erased rest page 1) rest
+
+-- Write options: first the wipe, then the bytes are stored, and are in force at once.
+unfoldable pub withOptions : Device → List ℕ → Device
+withOptions device options =
+    deviceOf (device .session)
+    (wiped (optionBytes (device .nvr)) options pageCount (device .flash))
+    (device .ram)
+    (replaced (device .nvr) (optionsStart - nvrStart) options)
+
+-- The work of each command, with the data of its frame. Only Get, Read and Read options reply with data.
+unfoldable pub work : Settings → Device → List ℕ → Request → Worked
+work settings device payload (Pps code) = worked workDone [] (withSession device (atRate (device .session) code))
+work settings device payload Get = worked workDone (information settings) device
+work settings device payload (Read address count) = worked workDone (bytesAt device address count) device
+work settings device payload (Write flag address count) =
+    let after : Device = written device address (drop 5 payload) in
+    worked (readback flag address (drop 5 payload) after) [] after
+work settings device payload (MemoryCrc address count sum) = worked (compared device address count sum) [] device
+work settings device payload (Erase first count) = worked workDone [] (withFlash device (erased (device .flash) first count))
+work settings device payload (Go address) = worked workDone [] (withSession device (inState (device .session) (Gone address)))
+work settings device payload WriteOptions = worked workDone [] (withOptions device payload)
+work settings device payload ReadOptions = worked workDone (optionBytes (device .nvr)) device
+work settings device payload HeartBeat = worked workDone [] device
+-- The checks let none of these through.
+work settings device payload Misshapen = worked wrongShape [] device

@@ -1,0 +1,65 @@
+// The stand-in for the TM32G07x. Document 01 is what it does; `specs/` says it again as definitions that run.
+
+mod options;
+mod sessions;
+
+// How many pages the flash has.
+const PAGE_COUNT: u32 = 32;
+
+// Where a session stands.
+pub enum State {
+    // No handshake yet.
+    Waiting,
+    // The handshake was answered: frames are read.
+    Talking,
+    // The loader has jumped to the program at this address, and answers nothing.
+    Gone { address: u32 },
+}
+
+// What the host is connected by.
+pub enum Link {
+    Uart,
+    Spi,
+    I2c,
+}
+
+// A session, handed in and handed back changed. The rate is the code of PPS, and not bits per second.
+pub struct Session {
+    pub state: State,
+    pub link: Link,
+    pub rate: u8,
+}
+
+// What Get tells of the chip, given at the start. Version and serial are sent as the bytes that they are here.
+pub struct Settings {
+    pub version: [u8; 2],
+    pub serial: [u8; 12],
+    pub package: u8,
+    pub model: u8,
+    pub links: u32,
+}
+
+// What a Talking device reads in a message: one of the ten commands with its fields, or none. The bytes of a write and of the
+// option bytes stay in the message, beside this.
+pub enum Request {
+    Pps { code: u8 },
+    Get,
+    Read { address: u32, count: u32 },
+    Write { flag: u8, address: u32, count: u32 },
+    MemoryCrc { address: u32, count: u32, sum: u16 },
+    Erase { first: u32, count: u32 },
+    Go { address: u32 },
+    WriteOptions,
+    ReadOptions,
+    HeartBeat,
+    // No frame, an unknown command, a data length that is wrong for the command, or a readback flag above 1.
+    Misshapen,
+}
+
+// What comes of a message.
+pub enum Answer {
+    // A reply of this length stands at the start of the lent buffer.
+    Reply { length: usize },
+    // Nothing was done, and 01's number, 1 to 5, says why.
+    Refused { number: u8 },
+}

@@ -1,0 +1,118 @@
+// What the option bytes protect: the chip from reading, and single pages of the flash.
+use crate::PAGE_COUNT;
+use memory::PageRun;
+ghost use mathlib.Core.Path.{_≡_};
+ghost use Prim.Native.Nat.{_≤_, _<_};
+ghost use lib.ListN.{length};
+ghost use Rattle.memory.specs.Pages.{some};
+ghost use Rattle.tm32.specs.Map.{optionsLength};
+ghost use Rattle.tm32.specs.Options.{inEither, inRange, lowByte, rdpOn, underPcrop, underWrp};
+
+// The low byte of halfword 1 that means no read protection.
+const RDP_OFF: u8 = 0xAA;
+
+// The halfwords in which the first of two ranges starts. It ends in the next, and behind it stands the second.
+const PCROP: usize = 3;
+
+const WRP: usize = 7;
+
+// Whether read protection is on.
+pub(crate) fn rdp_on(options: &[u8]) -> bool
+    requires { ⌜ length (now options) ≡ optionsLength ⌝ }
+    ensures { λ r. ⌜ r ≡ rdpOn (now (options .entry)) ⌝ }
+{
+    low_byte(options, 1) != RDP_OFF
+}
+
+// Whether a page is under PCROP.
+pub(crate) fn under_pcrop(options: &[u8], page: u32) -> bool
+    requires { ⌜ length (now options) ≡ optionsLength ⌝ }
+    ensures { λ r. ⌜ r ≡ underPcrop (now (options .entry)) page ⌝ }
+{
+    in_either(options, PCROP, page)
+}
+
+// Whether a page is under WRP.
+pub(crate) fn under_wrp(options: &[u8], page: u32) -> bool
+    requires { ⌜ length (now options) ≡ optionsLength ⌝ }
+    ensures { λ r. ⌜ r ≡ underWrp (now (options .entry)) page ⌝ }
+{
+    in_either(options, WRP, page)
+}
+
+// Whether some page of a run is under PCROP.
+pub(crate) fn pcrop_meets(options: &[u8], pages: PageRun) -> bool
+    requires { ⌜ length (now options) ≡ optionsLength ⌝ }
+    ensures { λ r. ⌜ r ≡ some (underPcrop (now (options .entry))) pages ⌝ }
+{
+    either_meets(options, PCROP, pages)
+}
+
+// Whether some page of a run is under WRP.
+pub(crate) fn wrp_meets(options: &[u8], pages: PageRun) -> bool
+    requires { ⌜ length (now options) ≡ optionsLength ⌝ }
+    ensures { λ r. ⌜ r ≡ some (underWrp (now (options .entry))) pages ⌝ }
+{
+    either_meets(options, WRP, pages)
+}
+
+// Whether a page is in one of two ranges, of which the first starts in a halfword.
+fn in_either(options: &[u8], halfword: usize, page: u32) -> bool
+    requires { ⌜ length (now options) ≡ optionsLength ⌝ }
+    requires { ⌜ (1 ≤ halfword) × (halfword < 9) ⌝ }
+    ensures { λ r. ⌜ r ≡ inEither (now (options .entry)) halfword page ⌝ }
+{
+    if in_range(options, halfword, page) {
+        return true;
+    }
+    in_range(options, halfword + 2, page)
+}
+
+// Whether some page of a run is.
+fn either_meets(options: &[u8], halfword: usize, pages: PageRun) -> bool
+    requires { ⌜ length (now options) ≡ optionsLength ⌝ }
+    requires { ⌜ (1 ≤ halfword) × (halfword < 9) ⌝ }
+    ensures { λ r. ⌜ r ≡ some (inEither (now (options .entry)) halfword) pages ⌝ }
+{
+    if range_meets(options, halfword, pages) {
+        return true;
+    }
+    range_meets(options, halfword + 2, pages)
+}
+
+// Whether a page is in the range that starts in a halfword.
+fn in_range(options: &[u8], halfword: usize, page: u32) -> bool
+    requires { ⌜ length (now options) ≡ optionsLength ⌝ }
+    requires { ⌜ (1 ≤ halfword) × (halfword < 11) ⌝ }
+    ensures { λ r. ⌜ r ≡ inRange (now (options .entry)) halfword page ⌝ }
+{
+    memory::covers(
+        PAGE_COUNT,
+        low_byte(options, halfword),
+        low_byte(options, halfword + 1),
+        page,
+    )
+}
+
+// Whether some page of a run is in the range that starts in a halfword.
+fn range_meets(options: &[u8], halfword: usize, pages: PageRun) -> bool
+    requires { ⌜ length (now options) ≡ optionsLength ⌝ }
+    requires { ⌜ (1 ≤ halfword) × (halfword < 11) ⌝ }
+    ensures { λ r. ⌜ r ≡ some (inRange (now (options .entry)) halfword) pages ⌝ }
+{
+    memory::meets(
+        PAGE_COUNT,
+        low_byte(options, halfword),
+        low_byte(options, halfword + 1),
+        pages,
+    )
+}
+
+// The low byte of a halfword. Halfwords count from 1.
+fn low_byte(options: &[u8], halfword: usize) -> u8
+    requires { ⌜ length (now options) ≡ optionsLength ⌝ }
+    requires { ⌜ (1 ≤ halfword) × (halfword < 12) ⌝ }
+    ensures { λ r. ⌜ r ≡ lowByte (now (options .entry)) halfword ⌝ }
+{
+    options[2 * (halfword - 1)]
+}
