@@ -1,7 +1,7 @@
 -- A worked case: what is sent to which device, and all that must come of it. And the devices that the cases start on, put together here apart from the definitions under trial.
 use Prim.Native.Nat.{ℕ}
 use mathlib.Core.List.{List, [], _∷_, _++_}
-use lib.ListN.{take, drop, replicate}
+use lib.ListN.{replicate}
 use Rattle.tm32.specs.Device.{Device, deviceOf, sessionOf}
 use Rattle.tm32.specs.Fresh.{freshSettings}
 use Rattle.tm32.specs.Respond.{Answered, answered, respond}
@@ -33,10 +33,6 @@ given (one ∷ rest) = respond freshSettings (prepared (one .device) (one .befor
 unfoldable pub right : List Case → List Answered
 right [] = []
 right (one ∷ rest) = answered (one .after) (one .reply) ∷ right rest
-
--- The 22 bytes of a message that writes the options.
-abbrev pub sent : List ℕ → List ℕ
-sent message = take 22 (drop 4 message)
 
 -- A device on UART at rate code 0x0A, with RAM all nought, in a state, with a flash, and with option bytes in an NVR that is nought otherwise.
 abbrev pub onBench : State → List ℕ → List ℕ → Device

@@ -1,6 +1,6 @@
 -- Document 01, "Both sides of each edge": the cases marked P, as one list, and one statement that each of them comes out as 01 says: the whole reply, and every byte of the device.
--- The first part has each case as 01 gives it. A blank flash hides much, so the second has them once more over a flash that is full, with page 7 write-protected where the options
--- are written; and the third has what 01 warns of.
+-- The first part has each case as 01 gives it. A blank flash hides what an erase, a write or a wipe does, so the second has those cases once more over a full flash, with page 7
+-- write-protected. The third has what 01 warns of, and the fourth the commands and regions that are left.
 use Prim.Native.Nat.{ℕ}
 use mathlib.Core.Path.{_≡_, refl}
 use mathlib.Core.List.{List, [], _∷_, _++_}
@@ -11,90 +11,117 @@ use Rattle.memory.specs.Pages.{covers, some, someOf, touched}
 use Rattle.memory.specs.Ranges.{within}
 use Rattle.memory.specs.Stores.{kept, masked, part, replaced, same}
 use Rattle.tm32.specs.Checks.{checks, flashPages, isLength, isPageCount, isUart, protections, readChecks, verdict, writeChecks}
-use Rattle.tm32.specs.Device.{Device, bytesAt, sessionOf, start, withSession}
+use Rattle.tm32.specs.Device.{Device, bytesAt, sessionOf, start, withNvr, withRam, withSession}
 use Rattle.tm32.specs.Fresh.{freshDevice, freshFlash, freshNvr, freshOptions, freshRam, freshSettings}
 use Rattle.tm32.specs.Map.{inFlash, inNvr, inRam, inUserNvr, readable, runnable, writable}
 use Rattle.tm32.specs.Options.{inEither, optionBytes, rdpOn}
 use Rattle.tm32.specs.Rates.{isRate}
 use Rattle.tm32.specs.Request.{exactly, longAt, readAs, requestIn, requestOf, writeIn}
 use Rattle.tm32.specs.Respond.{greet, refuse, replyTo, respond, respondIn, serve, verdictOn}
-use Rattle.tm32.specs.Work.{commandWord, erased, information, long, readback, toldCommands, wiped, wipes, withOptions, work, written}
+use Rattle.tm32.specs.Work.{commandWord, compared, erased, information, long, readback, toldCommands, wiped, wipes, withOptions, work, written}
 use Rattle.tm32.specs.declared.Link.the-variants.{Spi, Uart}
 use Rattle.tm32.specs.declared.State.the-variants.{Waiting, Talking, Gone}
-use Rattle.demands.specs.Cases.{Case, blankFlash, case, fullFlash, fullPages, given, onBench, oneByte, prepared, right, sent}
-use Rattle.demands.specs.Wire.{answered92, done, done3C, done44, doneFF, doneInformation, eraseAroundPage5, eraseLastPage, erasePastTheEnd, get, goLastPlace, goPastTheEnd, handshake, heartBeat, optionsPcrop5, optionsPcrop5Wrp7, optionsRdpOff, optionsRdpOffWrp7, optionsRdpOn, optionsRdpOnWrp7, pps00, pps10, pps11, readAtTheTop, readBeforePage5, readFirstByte, readIntoPage5, readLastByte, readNothing, readPastTheEnd, readTooMuch, refused61, refused62, refused63, refused80, refusedF0, refusedF1, refusedF2, refusedF5, write0F, write3C, write3CReadBack, writeOverPage7}
+use Rattle.demands.specs.Cases.{Case, blankFlash, case, fullFlash, fullPages, given, onBench, oneByte, prepared, right}
+use Rattle.demands.specs.Wire.{done, erase, first, get, go, halfwords, handshake, heartBeat, hex, little, memoryCrc, message, none, off, options, pps, read, readOptions, second, write, writeOptions}
 
--- A blank device that Talks, and a full one, each with the options that a message wrote.
+-- A blank device that Talks, and a full one, each with some options.
 abbrev blank : List ℕ → Device
-blank options = onBench Talking blankFlash (sent options)
+blank = onBench Talking blankFlash
 
 abbrev full : List ℕ → Device
-full options = onBench Talking (fullFlash 0x0F) (sent options)
+full = onBench Talking (fullFlash 0x0F)
 
 -- The fresh device, and one with a full flash, after a handshake and some more messages.
 abbrev fresh : List (List ℕ) → List ℕ → List ℕ → Device → Case
 fresh before = case freshDevice (handshake ∷ before)
 
 abbrev filled : List (List ℕ) → List ℕ → List ℕ → Device → Case
-filled before = case (onBench Waiting (fullFlash 0x0F) (sent optionsRdpOff)) (handshake ∷ before)
+filled before = case (onBench Waiting (fullFlash 0x0F) off) (handshake ∷ before)
+
+-- Option bytes that the cases write.
+abbrev pcrop5 : List ℕ
+pcrop5 = options 0xAA (first 5) none
+
+abbrev rdp : List ℕ
+rdp = options 0x00 none none
+
+abbrev pcrop5wrp7 : List ℕ
+pcrop5wrp7 = options 0xAA (second 5) (second 7)
+
+abbrev rdpWrp7 : List ℕ
+rdpWrp7 = options 0x00 none (second 7)
+
+abbrev wrp7 : List ℕ
+wrp7 = options 0xAA none (second 7)
+
+-- Writes of one byte at the start of page 1, without readback.
+abbrev put : ℕ → List ℕ
+put byte = write 0 0x08000400 (byte ∷ [])
 
 -- The cases as 01 gives them.
 unfoldable pub asGiven : List Case
 asGiven =
-    case freshDevice [] heartBeat refused80 (onBench Waiting blankFlash (sent optionsRdpOff))
-    ∷ fresh [] heartBeat done (blank optionsRdpOff)
-    ∷ fresh [] readLastByte doneFF (blank optionsRdpOff)
-    ∷ fresh [] readPastTheEnd refusedF1 (blank optionsRdpOff)
-    ∷ fresh [] readTooMuch refusedF2 (blank optionsRdpOff)
-    ∷ fresh [] readNothing refusedF2 (blank optionsRdpOff)
-    ∷ fresh (optionsPcrop5 ∷ []) readBeforePage5 doneFF (blank optionsPcrop5)
-    ∷ fresh (optionsPcrop5 ∷ []) readIntoPage5 refused63 (blank optionsPcrop5)
-    ∷ fresh [] eraseLastPage done (blank optionsRdpOff)
-    ∷ fresh [] erasePastTheEnd refusedF1 (blank optionsRdpOff)
-    ∷ fresh (write0F ∷ []) write3CReadBack answered92 (onBench Talking (oneByte 0x0C) (sent optionsRdpOff))
-    ∷ fresh (write0F ∷ []) write3C done (onBench Talking (oneByte 0x0C) (sent optionsRdpOff))
-    ∷ fresh (write0F ∷ []) optionsRdpOn done (onBench Talking (oneByte 0x0F) (sent optionsRdpOn))
-    ∷ fresh (write0F ∷ optionsRdpOn ∷ []) readFirstByte refused62 (onBench Talking (oneByte 0x0F) (sent optionsRdpOn))
-    ∷ fresh (write0F ∷ optionsRdpOn ∷ []) optionsRdpOff done (blank optionsRdpOff)
+    case freshDevice [] heartBeat (hex 6 0x2D8000009235) (onBench Waiting blankFlash off)
+    ∷ fresh [] heartBeat done (blank off)
+    ∷ fresh [] (read 0x08007FFF 1) (hex 7 0x2D900100FF91C6) (blank off)
+    ∷ fresh [] (read 0x08007FFF 2) (hex 6 0x2DF10000AADA) (blank off)
+    ∷ fresh [] (read 0x08000000 1025) (hex 6 0x2DF20000FA83) (blank off)
+    ∷ fresh [] (read 0x08000000 0) (hex 6 0x2DF20000FA83) (blank off)
+    ∷ fresh (writeOptions pcrop5 ∷ []) (read 0x080013FF 1) (hex 7 0x2D900100FF91C6) (blank pcrop5)
+    ∷ fresh (writeOptions pcrop5 ∷ []) (read 0x080013FF 2) (hex 6 0x2D630000F3CC) (blank pcrop5)
+    ∷ fresh [] (erase 31 1) done (blank off)
+    ∷ fresh [] (erase 31 2) (hex 6 0x2DF10000AADA) (blank off)
+    ∷ fresh (put 0x0F ∷ []) (write 1 0x08000400 (0x3C ∷ [])) (hex 6 0x2D9200009118) (onBench Talking (oneByte 0x0C) off)
+    ∷ fresh (put 0x0F ∷ []) (put 0x3C) done (onBench Talking (oneByte 0x0C) off)
+    ∷ fresh [] (writeOptions rdp) done (blank rdp)
+    ∷ fresh (writeOptions rdp ∷ []) (read 0x08000000 1) (hex 6 0x2D620000C3FB) (blank rdp)
+    ∷ fresh (writeOptions rdp ∷ []) (writeOptions off) done (blank off)
     ∷ []
 
 -- The same where a blank flash would hide what happened. All pages but the named ones stay, and the wipe takes the write-protected one too.
 unfoldable pub overFullFlash : List Case
 overFullFlash =
-    filled [] readLastByte done3C (full optionsRdpOff)
-    ∷ filled [] readPastTheEnd refusedF1 (full optionsRdpOff)
-    ∷ filled (optionsPcrop5Wrp7 ∷ []) readBeforePage5 done44 (full optionsPcrop5Wrp7)
-    ∷ filled (optionsPcrop5Wrp7 ∷ []) readIntoPage5 refused63 (full optionsPcrop5Wrp7)
-    ∷ filled (optionsRdpOffWrp7 ∷ []) eraseLastPage done (onBench Talking (fullPages 0x0F ++ replicate 1024 0xFF) (sent optionsRdpOffWrp7))
-    ∷ filled (optionsRdpOffWrp7 ∷ []) erasePastTheEnd refusedF1 (full optionsRdpOffWrp7)
-    ∷ filled (optionsRdpOffWrp7 ∷ []) write3CReadBack answered92 (onBench Talking (fullFlash 0x0C) (sent optionsRdpOffWrp7))
-    ∷ filled (optionsRdpOffWrp7 ∷ []) write3C done (onBench Talking (fullFlash 0x0C) (sent optionsRdpOffWrp7))
-    ∷ filled [] optionsRdpOnWrp7 done (full optionsRdpOnWrp7)
-    ∷ filled (optionsRdpOnWrp7 ∷ []) readFirstByte refused62 (full optionsRdpOnWrp7)
-    ∷ filled (optionsRdpOnWrp7 ∷ []) optionsRdpOffWrp7 done (blank optionsRdpOffWrp7)
+    filled [] (read 0x08007FFF 1) (hex 7 0x2D9001003CBE2F) (full off)
+    ∷ filled [] (read 0x08007FFF 2) (hex 6 0x2DF10000AADA) (full off)
+    ∷ filled (writeOptions pcrop5wrp7 ∷ []) (read 0x080013FF 1) (hex 7 0x2D9001004421D0) (full pcrop5wrp7)
+    ∷ filled (writeOptions pcrop5wrp7 ∷ []) (read 0x080013FF 2) (hex 6 0x2D630000F3CC) (full pcrop5wrp7)
+    ∷ filled (writeOptions wrp7 ∷ []) (erase 31 1) done (onBench Talking (fullPages 0x0F ++ replicate 1024 0xFF) wrp7)
+    ∷ filled (writeOptions wrp7 ∷ []) (erase 31 2) (hex 6 0x2DF10000AADA) (full wrp7)
+    ∷ filled (writeOptions wrp7 ∷ []) (write 1 0x08000400 (0x3C ∷ [])) (hex 6 0x2D9200009118) (onBench Talking (fullFlash 0x0C) wrp7)
+    ∷ filled (writeOptions wrp7 ∷ []) (put 0x3C) done (onBench Talking (fullFlash 0x0C) wrp7)
+    ∷ filled [] (writeOptions rdpWrp7) done (full rdpWrp7)
+    ∷ filled (writeOptions rdpWrp7 ∷ []) (read 0x08000400 1) (hex 6 0x2D620000C3FB) (full rdpWrp7)
+    ∷ filled (writeOptions rdpWrp7 ∷ []) (writeOptions wrp7) done (blank wrp7)
     ∷ []
 
 -- Ways to get it almost right, and what is right: a range that would wrap is refused; so is one with a protected page in its middle, and one whose first byte is free, of which
 -- nothing is written; and with read protection off before and after nothing is wiped.
 unfoldable pub almostRight : List Case
 almostRight =
-    filled [] readAtTheTop refusedF1 (full optionsRdpOff)
-    ∷ filled (optionsPcrop5Wrp7 ∷ []) eraseAroundPage5 refused63 (full optionsPcrop5Wrp7)
-    ∷ filled (optionsRdpOffWrp7 ∷ []) writeOverPage7 refused61 (full optionsRdpOffWrp7)
-    ∷ filled [] optionsRdpOffWrp7 done (full optionsRdpOffWrp7)
+    filled [] (read 0xFFFFFFFF 2) (hex 6 0x2DF10000AADA) (full off)
+    ∷ filled (writeOptions pcrop5wrp7 ∷ []) (erase 4 3) (hex 6 0x2D630000F3CC) (full pcrop5wrp7)
+    ∷ filled (writeOptions wrp7 ∷ []) (write 0 0x08001BFF (0x00 ∷ 0x00 ∷ [])) (hex 6 0x2D61000093A2) (full wrp7)
+    ∷ filled [] (writeOptions wrp7) done (full wrp7)
     ∷ []
 
--- The commands that no case above has: what Get tells, both ends of the rates, and the last place to jump to. Behind it nothing is answered.
+-- What no case above has. Get and the option bytes; both ends of the rates; the CRC of the last two bytes of a full flash (0x16AB, worked out apart), and another; the last byte of
+-- RAM, the first of NVR5, and the last of NVR4, which is not for writing; the last place to jump to, behind which nothing is answered.
 unfoldable pub otherCommands : List Case
 otherCommands =
-    fresh [] get doneInformation (blank optionsRdpOff)
-    ∷ fresh [] pps10 done (withSession (blank optionsRdpOff) (sessionOf Talking Uart 0x10))
-    ∷ fresh [] pps11 refusedF0 (blank optionsRdpOff)
-    ∷ fresh [] pps00 refusedF0 (blank optionsRdpOff)
-    ∷ case (withSession freshDevice (start Spi)) (handshake ∷ []) pps11 refusedF5 (withSession (blank optionsRdpOff) (sessionOf Talking Spi 0x0A))
-    ∷ fresh [] goLastPlace done (onBench (Gone 0x08007FF8) blankFlash (sent optionsRdpOff))
-    ∷ fresh [] goPastTheEnd refusedF1 (blank optionsRdpOff)
-    ∷ fresh (goLastPlace ∷ []) heartBeat [] (onBench (Gone 0x08007FF8) blankFlash (sent optionsRdpOff))
+    fresh [] get (hex 30 0x2D90180000010000000000000000000000000000FF0100007F000000038F) (blank off)
+    ∷ fresh (writeOptions pcrop5wrp7 ∷ []) readOptions (hex 28 0x2D901600AA000000FF00000005000500FF0000000700070000003FC4) (blank pcrop5wrp7)
+    ∷ fresh [] (pps 0x10) done (withSession (blank off) (sessionOf Talking Uart 0x10))
+    ∷ fresh [] (pps 0x11) (hex 6 0x2DF000009AED) (blank off)
+    ∷ fresh [] (pps 0x00) (hex 6 0x2DF000009AED) (blank off)
+    ∷ case (withSession freshDevice (start Spi)) (handshake ∷ []) (pps 0x11) (hex 6 0x2DF500006A06) (withSession (blank off) (sessionOf Talking Spi 0x0A))
+    ∷ filled [] (memoryCrc 0x08007FFE 2 0x16AB) done (full off)
+    ∷ filled [] (memoryCrc 0x08007FFE 2 0x16AC) (hex 6 0x2DF400005A31) (full off)
+    ∷ fresh [] (write 1 0x20003FFF (0xA5 ∷ [])) done (withRam (blank off) (replicate 9215 0 ++ 0xA5 ∷ []))
+    ∷ fresh [] (write 1 0x1FFF1000 (0xA5 ∷ [])) done (withNvr (blank off) (replicate 2048 0 ++ off ++ replicate 2026 0 ++ 0xA5 ∷ replicate 2047 0))
+    ∷ fresh [] (write 1 0x1FFF0FFF (0xA5 ∷ [])) (hex 6 0x2DF10000AADA) (blank off)
+    ∷ fresh [] (go 0x08007FF8) done (onBench (Gone 0x08007FF8) blankFlash off)
+    ∷ fresh [] (go 0x08007FF9) (hex 6 0x2DF10000AADA) (blank off)
+    ∷ fresh (go 0x08007FF8 ∷ []) heartBeat [] (onBench (Gone 0x08007FF8) blankFlash off)
     ∷ []
 
 -- All of them, as one list.
@@ -103,5 +130,5 @@ cases = asGiven ++ overFullFlash ++ almostRight ++ otherCommands
 
 -- All of them hold.
 all-hold : given cases ≡ right cases
-unfolding given right prepared cases asGiven overFullFlash almostRight otherCommands respond respondIn greet serve replyTo verdictOn refuse frame covered word crc byteDone bitsDone bitDone shifted polynomial reading wordAt dataOf requestIn readAs requestOf writeIn exactly longAt checks verdict isUart isRate isLength isPageCount protections readChecks writeChecks flashPages some someOf covers touched within inFlash inRam inNvr inUserNvr readable writable runnable bytesAt part replaced masked kept same rdpOn inEither optionBytes erased wipes wiped withOptions work written readback information long commandWord toldCommands freshDevice freshFlash freshRam freshNvr freshOptions freshSettings
+unfolding given right prepared hex little message halfwords options cases asGiven overFullFlash almostRight otherCommands respond respondIn greet serve replyTo verdictOn refuse frame covered word crc byteDone bitsDone bitDone shifted polynomial reading wordAt dataOf requestIn readAs requestOf writeIn exactly longAt checks verdict isUart isRate isLength isPageCount protections readChecks writeChecks flashPages some someOf covers touched within inFlash inRam inNvr inUserNvr readable writable runnable bytesAt part replaced masked kept same rdpOn inEither optionBytes erased wipes wiped withOptions work written readback compared information long commandWord toldCommands freshDevice freshFlash freshRam freshNvr freshOptions freshSettings
 all-hold = refl

@@ -10,9 +10,9 @@ use Rattle.frame.specs.Frame.{covered, dataOf, frame, laid, reading, word, word
 use Rattle.memory.specs.Pages.{covers}
 use Rattle.memory.specs.Ranges.{within}
 use Rattle.memory.specs.Stores.{replaced, same}
-use Rattle.tm32.specs.After.{Told, after, lay, lendings, refused, reply, tell}
+use Rattle.tm32.specs.After.{after, lay, lendings, refused, reply, tell}
 use Rattle.tm32.specs.Checks.{checks, isLength, protections, verdict}
-use Rattle.tm32.specs.Device.{Device, deviceOf, sessionOf, withFlash, withNvr, withRam, withSession}
+use Rattle.tm32.specs.Device.{Device, deviceOf, sessionOf, withSession}
 use Rattle.tm32.specs.Fresh.{freshDevice, freshFlash, freshNvr, freshOptions, freshRam, freshSettings}
 use Rattle.tm32.specs.Map.{inNvr, pageCount}
 use Rattle.tm32.specs.OptionMessages.{isTalking, optionMessage, readsOptions, touchesOptions}
@@ -20,12 +20,11 @@ use Rattle.tm32.specs.Options.{inEither, rdpOn, underPcrop, underWrp}
 use Rattle.tm32.specs.Rates.{bitsPerSecond, isRate, rates}
 use Rattle.tm32.specs.Request.{exactly, longAt, readAs, requestIn, requestOf}
 use Rattle.tm32.specs.Respond.{greet, refuse, replyTo, respond, respondIn, serve, verdictOn}
-use Rattle.tm32.specs.Run.{message, restarted, run}
+use Rattle.tm32.specs.Run.{restarted, run, sent}
 use Rattle.tm32.specs.Work.{commandWord, spi1, toldCommands, uart1, uart2, work}
-use Rattle.tm32.specs.declared.Answer.the-variants.{Reply}
 use Rattle.tm32.specs.declared.Link.the-variants.{Spi, Uart}
-use Rattle.tm32.specs.declared.State.the-variants.{Talking, Waiting}
-use Rattle.demands.specs.Wire.{done, handshake, heartBeat, optionsRdpOff, readBeforeOptions, readBehindOptions, readIntoOptions, readLastOption, readOptions, readTooMuchOfOptions, refused80}
+use Rattle.tm32.specs.declared.State.the-variants.{Talking}
+use Rattle.demands.specs.Wire.{done, halfwords, handshake, heartBeat, hex, little, message, none, off, options, read, readOptions, shaken, writeOptions}
 
 -- Which of so many pages pass a test.
 unfoldable pub passing : (ℕ → Bool) → ℕ → List ℕ
@@ -94,24 +93,24 @@ refusals-in-order = refl
 -- What reads or writes the option bytes of a device that Talks: 0x31, 0x32, and a Read that touches them. A Read beside them does not, nor one that is too long to be served.
 touching-the-options :
     map (optionMessage (withSession freshDevice (sessionOf Talking Uart 0x0A)))
-    (optionsRdpOff ∷ readOptions ∷ readBeforeOptions ∷ readIntoOptions ∷ readLastOption ∷ readBehindOptions ∷ readTooMuchOfOptions ∷ heartBeat ∷ [])
+    (writeOptions off ∷ readOptions ∷ read 0x1FFF07FF 1 ∷ read 0x1FFF07FF 2 ∷ read 0x1FFF0815 1 ∷ read 0x1FFF0816 1 ∷ read 0x1FFF0800 1025 ∷ heartBeat ∷ [])
     ≡ true ∷ true ∷ false ∷ true ∷ true ∷ false ∷ false ∷ false ∷ []
-unfolding freshDevice optionMessage isTalking touchesOptions readsOptions isLength inNvr within requestIn readAs requestOf exactly longAt reading wordAt dataOf crc byteDone bitsDone bitDone shifted polynomial
+unfolding hex little message halfwords options freshDevice optionMessage isTalking touchesOptions readsOptions isLength inNvr within requestIn readAs requestOf exactly longAt reading wordAt dataOf frame covered word crc byteDone bitsDone bitDone shifted polynomial
 touching-the-options = refl
 
 -- A device that Waits reads none of them.
-nothing-while-waiting : map (optionMessage freshDevice) (optionsRdpOff ∷ readOptions ∷ readIntoOptions ∷ []) ≡ false ∷ false ∷ false ∷ []
+nothing-while-waiting : map (optionMessage freshDevice) (writeOptions off ∷ readOptions ∷ read 0x1FFF0800 1 ∷ []) ≡ false ∷ false ∷ false ∷ []
 unfolding freshDevice optionMessage isTalking
 nothing-while-waiting = refl
 
 -- A handshake, a heart beat with too little room, one with enough, and one more after a restart on SPI.
 a-short-run :
-    run freshSettings freshDevice (message handshake 1030 ∷ message heartBeat 1029 ∷ message heartBeat 1030 ∷ restarted Spi ∷ message heartBeat 1030 ∷ []) .told
-    ≡ reply (0x79 ∷ []) ∷ refused 4 ∷ reply done ∷ reply refused80 ∷ []
-unfolding run tell lendings verdict isRate respond respondIn greet serve replyTo refuse verdictOn checks protections work requestIn readAs requestOf exactly reading wordAt dataOf frame covered word crc byteDone bitsDone bitDone shifted polynomial same freshDevice freshFlash freshRam freshNvr freshOptions replaced
+    run freshSettings freshDevice (sent handshake 1030 ∷ sent heartBeat 1029 ∷ sent heartBeat 1030 ∷ restarted Spi ∷ sent heartBeat 1030 ∷ []) .told
+    ≡ reply shaken ∷ refused 4 ∷ reply done ∷ reply (hex 6 0x2D8000009235) ∷ []
+unfolding hex run tell lendings verdict isRate respond respondIn greet serve replyTo refuse verdictOn checks protections work requestIn readAs requestOf exactly reading wordAt dataOf frame covered word crc byteDone bitsDone bitDone shifted polynomial same freshDevice freshFlash freshRam freshNvr freshOptions replaced
 a-short-run = refl
 
 -- The reply lies over the start of the buffer, and the rest of it is as it came.
 rest-of-the-buffer : after freshSettings freshDevice handshake (replicate 1040 0x11) .buffer ≡ 0x79 ∷ replicate 1039 0x11
-unfolding after lay laid tell lendings verdict isRate respond respondIn greet same freshDevice freshFlash freshRam freshNvr freshOptions replaced word
+unfolding hex after lay laid tell lendings verdict isRate respond respondIn greet same freshDevice freshFlash freshRam freshNvr freshOptions replaced word
 rest-of-the-buffer = refl

@@ -8,7 +8,7 @@ use Rattle.tm32.specs.declared.Settings.{Settings}
 
 -- What can happen to a device: a message with so much room lent for its reply, or a restart on a link.
 pub data Event : Type 0 where
-  message : List ℕ → ℕ → Event
+  sent : List ℕ → ℕ → Event
   restarted : Link → Event
 
 -- What a run leaves behind: the device, and what the host was told, a telling for each message.
@@ -23,7 +23,7 @@ ranOf device told = record { device = device; told = told }
 -- Events played in order.
 unfoldable pub run : Settings → Device → List Event → Ran
 run settings device [] = ranOf device []
-run settings device (message bytes room ∷ events) =
+run settings device (sent bytes room ∷ events) =
     let first : Telling = tell settings device bytes room in
     let rest : Ran = run settings (first .device) events in
     ranOf (rest .device) (first .told ∷ rest .told)
