@@ -24,7 +24,7 @@ use Rattle.tm32.specs.Run.{restarted, run, sent}
 use Rattle.tm32.specs.Work.{commandWord, spi1, toldCommands, uart1, uart2, work}
 use Rattle.tm32.specs.declared.Link.the-variants.{Spi, Uart}
 use Rattle.tm32.specs.declared.State.the-variants.{Talking}
-use Rattle.demands.specs.Wire.{done, halfwords, handshake, heartBeat, hex, little, message, none, off, options, read, readOptions, shaken, writeOptions}
+use Rattle.demands.specs.Wire.{done, halfwords, handshake, heartBeat, hex, little, message, off, options, askRead, askReadOptions, shaken, askWriteOptions}
 
 -- Which of so many pages pass a test.
 unfoldable pub passing : (ℕ → Bool) → ℕ → List ℕ
@@ -93,13 +93,13 @@ refusals-in-order = refl
 -- What reads or writes the option bytes of a device that Talks: 0x31, 0x32, and a Read that touches them. A Read beside them does not, nor one that is too long to be served.
 touching-the-options :
     map (optionMessage (withSession freshDevice (sessionOf Talking Uart 0x0A)))
-    (writeOptions off ∷ readOptions ∷ read 0x1FFF07FF 1 ∷ read 0x1FFF07FF 2 ∷ read 0x1FFF0815 1 ∷ read 0x1FFF0816 1 ∷ read 0x1FFF0800 1025 ∷ heartBeat ∷ [])
+    (askWriteOptions off ∷ askReadOptions ∷ askRead 0x1FFF07FF 1 ∷ askRead 0x1FFF07FF 2 ∷ askRead 0x1FFF0815 1 ∷ askRead 0x1FFF0816 1 ∷ askRead 0x1FFF0800 1025 ∷ heartBeat ∷ [])
     ≡ true ∷ true ∷ false ∷ true ∷ true ∷ false ∷ false ∷ false ∷ []
 unfolding hex little message halfwords options freshDevice optionMessage isTalking touchesOptions readsOptions isLength inNvr within requestIn readAs requestOf exactly longAt reading wordAt dataOf frame covered word crc byteDone bitsDone bitDone shifted polynomial
 touching-the-options = refl
 
 -- A device that Waits reads none of them.
-nothing-while-waiting : map (optionMessage freshDevice) (writeOptions off ∷ readOptions ∷ read 0x1FFF0800 1 ∷ []) ≡ false ∷ false ∷ false ∷ []
+nothing-while-waiting : map (optionMessage freshDevice) (askWriteOptions off ∷ askReadOptions ∷ askRead 0x1FFF0800 1 ∷ []) ≡ false ∷ false ∷ false ∷ []
 unfolding freshDevice optionMessage isTalking
 nothing-while-waiting = refl
 

@@ -32,33 +32,33 @@ done = hex 6 0x2D900000F176
 unfoldable pub message : ℕ → List ℕ → List ℕ
 message = frame 0
 
-abbrev pub pps : ℕ → List ℕ
-pps code = message 0x00 (code ∷ [])
+abbrev pub askPps : ℕ → List ℕ
+askPps code = message 0x00 (code ∷ [])
 
-abbrev pub get : List ℕ
-get = message 0x01 []
+abbrev pub askGet : List ℕ
+askGet = message 0x01 []
 
-abbrev pub read : ℕ → ℕ → List ℕ
-read address count = message 0x11 (little 4 address ++ little 2 count)
+abbrev pub askRead : ℕ → ℕ → List ℕ
+askRead address count = message 0x11 (little 4 address ++ little 2 count)
 
 -- The flag asks for readback.
-abbrev pub write : ℕ → ℕ → List ℕ → List ℕ
-write flag address bytes = message 0x12 (flag ∷ little 4 address ++ bytes)
+abbrev pub askWrite : ℕ → ℕ → List ℕ → List ℕ
+askWrite flag address bytes = message 0x12 (flag ∷ little 4 address ++ bytes)
 
-abbrev pub memoryCrc : ℕ → ℕ → ℕ → List ℕ
-memoryCrc address count sum = message 0x13 (little 4 address ++ little 4 count ++ little 2 sum)
+abbrev pub askMemoryCrc : ℕ → ℕ → ℕ → List ℕ
+askMemoryCrc address count sum = message 0x13 (little 4 address ++ little 4 count ++ little 2 sum)
 
-abbrev pub erase : ℕ → ℕ → List ℕ
-erase first count = message 0x14 (little 2 first ++ little 2 count)
+abbrev pub askErase : ℕ → ℕ → List ℕ
+askErase first count = message 0x14 (little 2 first ++ little 2 count)
 
-abbrev pub go : ℕ → List ℕ
-go address = message 0x21 (little 4 address)
+abbrev pub askGo : ℕ → List ℕ
+askGo address = message 0x21 (little 4 address)
 
-abbrev pub writeOptions : List ℕ → List ℕ
-writeOptions = message 0x31
+abbrev pub askWriteOptions : List ℕ → List ℕ
+askWriteOptions = message 0x31
 
-abbrev pub readOptions : List ℕ
-readOptions = message 0x32 []
+abbrev pub askReadOptions : List ℕ
+askReadOptions = message 0x32 []
 
 -- Halfwords as they stand among the option bytes.
 unfoldable pub halfwords : List ℕ → List ℕ
@@ -70,8 +70,8 @@ unfoldable pub options : ℕ → List ℕ → List ℕ → List ℕ
 options rdp pcrop wrp = halfwords (rdp ∷ 0 ∷ pcrop ++ wrp ++ 0 ∷ [])
 
 -- Two ranges that protect nothing, and two of which the first or the second protects one page.
-abbrev pub none : List ℕ
-none = 0xFF ∷ 0 ∷ 0xFF ∷ 0 ∷ []
+abbrev pub noPages : List ℕ
+noPages = 0xFF ∷ 0 ∷ 0xFF ∷ 0 ∷ []
 
 abbrev pub first : ℕ → List ℕ
 first page = page ∷ page ∷ 0xFF ∷ 0 ∷ []
@@ -81,4 +81,4 @@ second page = 0xFF ∷ 0 ∷ page ∷ page ∷ []
 
 -- As on the fresh device: nothing is protected.
 abbrev pub off : List ℕ
-off = options 0xAA none none
+off = options 0xAA noPages noPages

@@ -17,7 +17,7 @@ use lib.Dec.{ltb, lit<}
 use lib.ListN.{length, take, drop, length-append, length-drop, take-append-drop}
 use lib.Seq.{take-append-seam, drop-append-seam}
 use Rattle.frame.specs.Crc.{byteDone, crc}
-use Rattle.frame.specs.Frame.{AllBytes, head, overhead, longest, word, covered, frame, dataOf, reading, laid, outcome, writing}
+use Rattle.frame.specs.Frame.{AllBytes, headByte, overhead, longest, word, covered, frame, dataOf, reading, laid, outcome, writing}
 use Rattle.frame.specs.declared.Reading.the-variants.{Sound}
 use Rattle.frame.specs.declared.Written.the-variants.{Frame, TooLong, NoRoom}
 use Rattle.frame.proofs.Answered
@@ -155,7 +155,7 @@ frame-bytes start second payload small all =
     Bytes.both (word (length payload)) payload (Bytes.word-bytes (length payload)) all
     in
     let checked : AllBytes (covered second payload) =
-    Bytes.more head (second ∷ word (length payload) ++ payload) (lit< tt) (Bytes.more second (word (length payload) ++ payload) small sized)
+    Bytes.more headByte (second ∷ word (length payload) ++ payload) (lit< tt) (Bytes.more second (word (length payload) ++ payload) small sized)
     in
     Bytes.both (covered second payload) (word (crc start (covered second payload))) checked (Bytes.word-bytes (crc start (covered second payload)))
 

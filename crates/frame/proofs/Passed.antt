@@ -9,7 +9,7 @@ use lib.Dec.{ltb, eqb}
 use lib.ListN.{length, take, drop, getD, length-drop}
 use lib.Seq.{take-add, length-take-le}
 use Rattle.frame.specs.Crc.{crc}
-use Rattle.frame.specs.Frame.{AllBytes, head, overhead, longest, word, wordAt, covered, dataOf, reading}
+use Rattle.frame.specs.Frame.{AllBytes, headByte, overhead, longest, word, wordAt, covered, dataOf, reading}
 use Rattle.frame.specs.declared.Reading.the-variants.{Sound, Spoiled}
 use Rattle.frame.proofs.Words.{parted, first-four, last-two}
 
@@ -30,7 +30,7 @@ passed false true true true place second n second′ n′ e = (refl, refl, refl,
 -- A sound frame has passed all four tests.
 pub record Passed (start : ℕ) (bytes : List ℕ) (second n : ℕ) : Type 0 where
   pub long : overhead ≤ length bytes
-  pub headed : getD bytes 0 0 ≡ head
+  pub headed : getD bytes 0 0 ≡ headByte
   pub sized : length bytes ≡ wordAt bytes 2 + overhead
   pub checked : wordAt bytes (length bytes - 2) ≡ crc start (take (length bytes - 2) bytes)
   pub named : getD bytes 1 0 ≡ second
@@ -41,7 +41,7 @@ unfolding reading
 passes start bytes second n sound =
     let check : ℕ = length bytes - 2 in
     let tests =
-    passed (ltb (length bytes) overhead) (eqb (getD bytes 0 0) head) (eqb (length bytes) (wordAt bytes 2 + overhead)) (eqb (wordAt bytes check) (crc start (take check bytes))) check (getD bytes 1 0) (length bytes - overhead) second n sound
+    passed (ltb (length bytes) overhead) (eqb (getD bytes 0 0) headByte) (eqb (length bytes) (wordAt bytes 2 + overhead)) (eqb (wordAt bytes check) (crc start (take check bytes))) check (getD bytes 1 0) (length bytes - overhead) second n sound
     in
     record {
       long = ltb-false _ _ (tests .0);

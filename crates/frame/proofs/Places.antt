@@ -6,7 +6,7 @@ use native.Mathlib.Omega.{arith}
 use lib.ListN.{length, take, getD, length-append}
 use lib.Seq.{take-at}
 use Rattle.frame.specs.Crc.{byteDone, crc}
-use Rattle.frame.specs.Frame.{head, overhead, longest, word, wordAt, covered, frame, dataOf}
+use Rattle.frame.specs.Frame.{headByte, overhead, longest, word, wordAt, covered, frame, dataOf}
 use Rattle.frame.proofs.Sums.{byte-fits, crc-fits}
 use Rattle.frame.proofs.Words.{whole-again, word-behind}
 
@@ -23,9 +23,9 @@ module _ (start second : ℕ) (payload : List ℕ) where
   check-fits : crc start (covered second payload) < 2 ^ 16
   unfolding crc covered
   check-fits =
-      crc-fits (byteDone start head) (second ∷ word (length payload) ++ payload) (byte-fits start head)
+      crc-fits (byteDone start headByte) (second ∷ word (length payload) ++ payload) (byte-fits start headByte)
 
-  pub head-at : getD (frame start second payload) 0 0 ≡ head
+  pub head-at : getD (frame start second payload) 0 0 ≡ headByte
   unfolding frame covered
   head-at = refl
 

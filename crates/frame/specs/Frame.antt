@@ -12,8 +12,8 @@ use Rattle.frame.specs.declared.Written.{Written}
 use Rattle.frame.specs.declared.Written.the-variants.{Frame, TooLong, NoRoom}
 
 -- The first byte of every frame.
-abbrev pub head : ℕ
-head = 0x2D
+abbrev pub headByte : ℕ
+headByte = 0x2D
 
 -- The bytes of a frame beside its data: head and second byte, two of data length, two of CRC.
 abbrev pub overhead : ℕ
@@ -33,7 +33,7 @@ wordAt bytes place = getD bytes place 0 + 256 * getD bytes (place + 1) 0
 
 -- All of a frame before its CRC, which is worked out over just that. The second byte is the command, or in a reply the result.
 unfoldable pub covered : ℕ → List ℕ → List ℕ
-covered second payload = head ∷ second ∷ word (length payload) ++ payload
+covered second payload = headByte ∷ second ∷ word (length payload) ++ payload
 
 -- The frame of a second byte and data.
 unfoldable pub frame : ℕ → ℕ → List ℕ → List ℕ
@@ -49,7 +49,7 @@ unfoldable pub reading : ℕ → List ℕ → Reading
 reading start bytes =
     let place : ℕ = length bytes - 2 in
     cond (ltb (length bytes) overhead) (Spoiled 0)
-    (cond (not (eqb (getD bytes 0 0) head)) (Spoiled 0)
+    (cond (not (eqb (getD bytes 0 0) headByte)) (Spoiled 0)
     (cond (not (eqb (length bytes) (wordAt bytes 2 + overhead))) (Spoiled 2)
     (cond (not (eqb (wordAt bytes place) (crc start (take place bytes)))) (Spoiled place)
     (Sound (getD bytes 1 0) (length bytes - overhead)))))

@@ -24,7 +24,7 @@ use lib.Bits.{bitAnd, and-zero-l, and-zero-r, and-le-r}
 use lib.Dec.{eqb, leb, ltb, lit<}
 use lib.ListN.{length, take, drop, getD, replicate, length-take, length-drop, List·getD-eq-default}
 use lib.Seq.{paste, paste-zero, length-paste, drop-paste, length-take-le, getD-take, getD-drop, take-at, drop-at, take-append-seam, take-length}
-use Rattle.memory.specs.Pages.{pages, touched, some, covers, meets}
+use Rattle.memory.specs.Pages.{pages, touched, somePage, covers, meets}
 use Rattle.memory.specs.Ranges.{within}
 use Rattle.memory.specs.Stores.{part, replaced, masked, same, kept, holds, Change, change, replacing, outcome, programming}
 use Rattle.memory.specs.declared.PageRun.{PageRun}
@@ -196,23 +196,23 @@ region-holds start size address count inside =
 
 module _ (test : ℕ → Bool) (run : PageRun) where
   -- some page passes where a page of the run does
-  pub some-page : (page : ℕ) → run .first ≤ page → page < run .first + run .count → test page ≡ true → some test run ≡ true
-  unfolding some
+  pub some-page : (page : ℕ) → run .first ≤ page → page < run .first + run .count → test page ≡ true → somePage test run ≡ true
+  unfolding somePage
   some-page page from before passes = found test (run .count) (run .first) page from before passes
 
   -- none passes where no page of the run does
-  pub some-none : ((page : ℕ) → run .first ≤ page → page < run .first + run .count → test page ≡ false) → some test run ≡ false
-  unfolding some
+  pub some-none : ((page : ℕ) → run .first ≤ page → page < run .first + run .count → test page ≡ false) → somePage test run ≡ false
+  unfolding somePage
   some-none none = none-found test (run .count) (run .first) none
 
 -- a test that passes wherever another does finds some page wherever the other does
-pub some-grows : (test wider : ℕ → Bool) (run : PageRun) → ((page : ℕ) → test page ≡ true → wider page ≡ true) → some test run ≡ true → some wider run ≡ true
-unfolding some
+pub some-grows : (test wider : ℕ → Bool) (run : PageRun) → ((page : ℕ) → test page ≡ true → wider page ≡ true) → somePage test run ≡ true → somePage wider run ≡ true
+unfolding somePage
 some-grows test wider run implies passes = grows test wider implies (run .count) (run .first) passes
 
 -- two tests tried together, page by page, find a page where one of them finds one
-pub some-either : (one other : ℕ → Bool) (run : PageRun) → some (λ page. one page || other page) run ≡ some one run || some other run
-unfolding some
+pub some-either : (one other : ℕ → Bool) (run : PageRun) → somePage (λ page. one page || other page) run ≡ somePage one run || somePage other run
+unfolding somePage
 some-either one other run = either one other (run .count) (run .first)
 
 -- ---- ranges of page numbers
@@ -226,7 +226,7 @@ covers-known total low high page passes =
     (ltb-true page total (all .0), leb-true low page (ends .0), leb-true page high (ends .1))
 
 -- a range meets a run where it covers some page of it
-pub meets-is : (total low high : ℕ) (run : PageRun) → meets total low high run ≡ some (covers total low high) run
+pub meets-is : (total low high : ℕ) (run : PageRun) → meets total low high run ≡ somePage (covers total low high) run
 unfolding meets
 meets-is total low high run = refl
 

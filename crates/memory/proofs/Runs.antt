@@ -7,7 +7,7 @@ use native.Mathlib.Nat.{eq-or-lt-of-le}
 use native.Mathlib.Omega.{arith}
 use borrow.Author.Tests.{lt-ltb, le-leb, ltb-true, ltb-false, leb-true}
 use lib.Dec.{ltb, leb}
-use Rattle.memory.specs.Pages.{someOf, covers}
+use Rattle.memory.specs.Pages.{someFrom, covers}
 
 -- three tests that cannot all pass
 not-all-pass : (one two three : Bool) → (one ≡ true → two ≡ true → three ≡ true → ⊥) → one && (two && three) ≡ false
@@ -23,8 +23,8 @@ decided test false a b is below above = above (ltb-false a b (sym is))
 
 module _ (test : ℕ → Bool) where
   -- a page of the run that passes is found
-  pub found : (count first page : ℕ) → first ≤ page → page < first + count → test page ≡ true → someOf test first count ≡ true
-  unfolding someOf
+  pub found : (count first page : ℕ) → first ≤ page → page < first + count → test page ≡ true → someFrom test first count ≡ true
+  unfolding someFrom
   found zero first page from before passes = absurd (omega arith)
   found (suc count) first page from before passes =
       or-eq-true-iff (test first) _ .1
@@ -34,16 +34,16 @@ module _ (test : ℕ → Bool) where
       (eq-or-lt-of-le from))
 
   -- where no page of the run passes none is found
-  pub none-found : (count first : ℕ) → ((page : ℕ) → first ≤ page → page < first + count → test page ≡ false) → someOf test first count ≡ false
-  unfolding someOf
+  pub none-found : (count first : ℕ) → ((page : ℕ) → first ≤ page → page < first + count → test page ≡ false) → someFrom test first count ≡ false
+  unfolding someFrom
   none-found zero first none = refl
   none-found (suc count) first none =
       rw (none first (omega arith) (omega arith)) (none-found count (first + 1) (λ page from before. none page (omega arith) (omega arith)))
 
 -- a test that passes wherever another does finds a page wherever the other does
 pub grows : (test wider : ℕ → Bool) → ((page : ℕ) → test page ≡ true → wider page ≡ true)
-    → (count first : ℕ) → someOf test first count ≡ true → someOf wider first count ≡ true
-unfolding someOf
+    → (count first : ℕ) → someFrom test first count ≡ true → someFrom wider first count ≡ true
+unfolding someFrom
 grows test wider implies zero first passes = passes
 grows test wider implies (suc count) first passes =
     or-eq-true-iff (wider first) _ .1
@@ -58,12 +58,12 @@ regrouped false false c d = refl
 
 -- two tests tried together, page by page, find a page where one of them does
 pub either : (one other : ℕ → Bool) (count first : ℕ)
-    → someOf (λ page. one page || other page) first count ≡ someOf one first count || someOf other first count
-unfolding someOf
+    → someFrom (λ page. one page || other page) first count ≡ someFrom one first count || someFrom other first count
+unfolding someFrom
 either one other zero first = refl
 either one other (suc count) first =
     ap (λ (rest : Bool). (one first || other first) || rest) (either one other count (first + 1))
-    ∙ regrouped (one first) (other first) (someOf one (first + 1) count) (someOf other (first + 1) count)
+    ∙ regrouped (one first) (other first) (someFrom one (first + 1) count) (someFrom other (first + 1) count)
 
 module _ (total low high : ℕ) where
   -- a page that the chip has, between the ends, is covered
@@ -72,7 +72,7 @@ module _ (total low high : ℕ) where
   covered page had from to = simp (lt-ltb _ _ had, le-leb _ _ from, le-leb _ _ to)
 
   -- a run has a covered page just where the later of the two starts lies before the sooner of the ends
-  pub some-covered : (count first : ℕ) → someOf (covers total low high) first count ≡ ltb (max first low) (min (first + count) (min (high + 1) total))
+  pub some-covered : (count first : ℕ) → someFrom (covers total low high) first count ≡ ltb (max first low) (min (first + count) (min (high + 1) total))
   unfolding covers
   some-covered count first =
       let start = max first low in

@@ -15,13 +15,13 @@ touched size place count =
     (pages (place / size) ((place + count - 1) / size - place / size + 1))
 
 -- Whether some of so many pages, from the first on, pass a test.
-unfoldable pub someOf : (ℕ → Bool) → ℕ → ℕ → Bool
-someOf test first zero = false
-someOf test first (suc count) = test first || someOf test (first + 1) count
+unfoldable pub someFrom : (ℕ → Bool) → ℕ → ℕ → Bool
+someFrom test first zero = false
+someFrom test first (suc count) = test first || someFrom test (first + 1) count
 
 -- Whether some page of a run passes a test.
-unfoldable pub some : (ℕ → Bool) → PageRun → Bool
-some test run = someOf test (run .first) (run .count)
+unfoldable pub somePage : (ℕ → Bool) → PageRun → Bool
+somePage test run = someFrom test (run .first) (run .count)
 
 -- Whether a range of page numbers covers a page of a chip that has so many pages. Both ends are in; where the start is above the end nothing is; a page that the chip does not have never is.
 unfoldable pub covers : ℕ → ℕ → ℕ → ℕ → Bool
@@ -29,4 +29,4 @@ covers pageCount start end page = ltb page pageCount && (leb start page && leb p
 
 -- Whether such a range covers some page of a run.
 unfoldable pub meets : ℕ → ℕ → ℕ → PageRun → Bool
-meets pageCount start end run = some (covers pageCount start end) run
+meets pageCount start end run = somePage (covers pageCount start end) run

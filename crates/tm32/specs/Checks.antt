@@ -4,7 +4,7 @@ use mathlib.Core.Bool.{Bool, true, false, cond, not, _&&_}
 use mathlib.Core.List.{List, [], _∷_, _++_}
 use lib.Dec.{eqb, leb, ltb}
 use Rattle.memory.specs.declared.PageRun.{PageRun}
-use Rattle.memory.specs.Pages.{pages, some, touched}
+use Rattle.memory.specs.Pages.{pages, somePage, touched}
 use Rattle.tm32.specs.Map.{flashStart, inFlash, pageCount, pageSize, readable, runnable, writable}
 use Rattle.tm32.specs.Options.{rdpOn, underPcrop, underWrp}
 use Rattle.tm32.specs.Rates.{isRate}
@@ -62,11 +62,11 @@ flashPages address count = cond (inFlash address count) (touched pageSize (addre
 
 -- Against looking at pages: read protection, where there is a page at all, then PCROP.
 unfoldable pub readChecks : List ℕ → PageRun → List Check
-readChecks options run = check (ltb 0 (run .count) && rdpOn options) readProtected ∷ check (some (underPcrop options) run) pageReadProtected ∷ []
+readChecks options run = check (ltb 0 (run .count) && rdpOn options) readProtected ∷ check (somePage (underPcrop options) run) pageReadProtected ∷ []
 
 -- Against changing pages: write protection.
 unfoldable pub writeChecks : List ℕ → PageRun → List Check
-writeChecks options run = check (some (underWrp options) run) writeProtected ∷ []
+writeChecks options run = check (somePage (underWrp options) run) writeProtected ∷ []
 
 -- Protection. Erase is under all three. Write is not refused for RDP or PCROP; Go and the option commands are free.
 unfoldable pub protections : List ℕ → Request → List Check

@@ -4,7 +4,7 @@ use memory::PageRun;
 ghost use mathlib.Core.Path.{_≡_};
 ghost use Prim.Native.Nat.{_≤_, _<_};
 ghost use lib.ListN.{length};
-ghost use Rattle.memory.specs.Pages.{some};
+ghost use Rattle.memory.specs.Pages.{somePage};
 ghost use Rattle.tm32.specs.Map.{optionsLength};
 ghost use Rattle.tm32.specs.Options.{inEither, inRange, lowByte, rdpOn, underPcrop, underWrp};
 
@@ -43,7 +43,7 @@ pub(crate) fn under_wrp(options: &[u8], page: u32) -> bool
 // Whether some page of a run is under PCROP.
 pub(crate) fn pcrop_meets(options: &[u8], pages: PageRun) -> bool
     requires { ⌜ length (now options) ≡ optionsLength ⌝ }
-    ensures { λ r. ⌜ r ≡ some (underPcrop (now (options .entry))) pages ⌝ }
+    ensures { λ r. ⌜ r ≡ somePage (underPcrop (now (options .entry))) pages ⌝ }
 {
     either_meets(options, PCROP, pages)
 }
@@ -51,7 +51,7 @@ pub(crate) fn pcrop_meets(options: &[u8], pages: PageRun) -> bool
 // Whether some page of a run is under WRP.
 pub(crate) fn wrp_meets(options: &[u8], pages: PageRun) -> bool
     requires { ⌜ length (now options) ≡ optionsLength ⌝ }
-    ensures { λ r. ⌜ r ≡ some (underWrp (now (options .entry))) pages ⌝ }
+    ensures { λ r. ⌜ r ≡ somePage (underWrp (now (options .entry))) pages ⌝ }
 {
     either_meets(options, WRP, pages)
 }
@@ -72,7 +72,7 @@ fn in_either(options: &[u8], halfword: usize, page: u32) -> bool
 fn either_meets(options: &[u8], halfword: usize, pages: PageRun) -> bool
     requires { ⌜ length (now options) ≡ optionsLength ⌝ }
     requires { ⌜ (1 ≤ halfword) × (halfword < 9) ⌝ }
-    ensures { λ r. ⌜ r ≡ some (inEither (now (options .entry)) halfword) pages ⌝ }
+    ensures { λ r. ⌜ r ≡ somePage (inEither (now (options .entry)) halfword) pages ⌝ }
 {
     if range_meets(options, halfword, pages) {
         return true;
@@ -98,7 +98,7 @@ fn in_range(options: &[u8], halfword: usize, page: u32) -> bool
 fn range_meets(options: &[u8], halfword: usize, pages: PageRun) -> bool
     requires { ⌜ length (now options) ≡ optionsLength ⌝ }
     requires { ⌜ (1 ≤ halfword) × (halfword < 11) ⌝ }
-    ensures { λ r. ⌜ r ≡ some (inRange (now (options .entry)) halfword) pages ⌝ }
+    ensures { λ r. ⌜ r ≡ somePage (inRange (now (options .entry)) halfword) pages ⌝ }
 {
     memory::meets(
         PAGE_COUNT,

@@ -9,7 +9,7 @@ use denote.Ref.{now}
 use lib.ListN.{length, take, drop, length-append}
 use lib.Seq.{take-length, drop-length, drop-drop, take-append-seam, drop-append-seam}
 use Rattle.frame.specs.Crc.{crc}
-use Rattle.frame.specs.Frame.{head, word, covered, frame, laid}
+use Rattle.frame.specs.Frame.{headByte, word, covered, frame, laid}
 use Rattle.frame.proofs.Places.{covered-length}
 use Rattle.frame.proofs.writer.put.Statement.{statement}
 use Rattle.frame.proofs.writer.put.Tie as tie
@@ -46,7 +46,7 @@ abbrev payload : tie.Start → List ℕ
 payload s = now (s .args .payload)
 
 abbrev before-data : tie.Start → List ℕ
-before-data s = head ∷ s .args .second ∷ word (length (payload s))
+before-data s = headByte ∷ s .args .second ∷ word (length (payload s))
 
 abbrev came : tie.Start → List ℕ
 came s = now (s .args .buffer)

@@ -3,7 +3,7 @@ use Prim.Native.Nat.{_+_, min}
 use mathlib.Core.Path.{_≡_, sym, ap, ap₂, _∙_}
 use lib.Dec.{ltb}
 use borrow.Author.Needs.{needs}
-use Rattle.memory.specs.Pages.{meets, some}
+use Rattle.memory.specs.Pages.{meets, somePage}
 use Rattle.memory.proofs.Runs.{some-covered}
 use Rattle.memory.proofs.pages.meets.Statement.{statement}
 use Rattle.memory.proofs.pages.meets.Tie as tie
@@ -30,7 +30,7 @@ sooner-requires-2 : tie.Need-sooner-requires-2
 sooner-requires-2 c κs = search needs
 
 returns : tie.Need-returns
-unfolding meets some
+unfolding meets somePage
 returns c =
     let at-later = c .before in
     let at-sooner = at-later .before in
