@@ -1,6 +1,6 @@
--- What the definitions say where document 01 gives an example or a bound, worked out by the checker: protected pages, rates, words of Get, refusals 1 to 5, the messages that
+-- What the definitions say where document 01 gives an example or a bound, worked out by the checker: protected pages, rates, last addresses, what Get tells, refusals 1 to 5, the messages that
 -- touch the option bytes, and a short run.
-use Prim.Native.Nat.{ℕ, zero, suc, _+_}
+use Prim.Native.Nat.{ℕ, zero, suc, _+_, _-_}
 use mathlib.Core.Bool.{Bool, true, false, cond}
 use mathlib.Core.List.{List, [], _∷_, _++_, map}
 use mathlib.Core.Path.{_≡_, refl}
@@ -10,21 +10,22 @@ use Rattle.frame.specs.Frame.{covered, dataOf, frame, laid, reading, word, word
 use Rattle.memory.specs.Pages.{covers}
 use Rattle.memory.specs.Ranges.{within}
 use Rattle.memory.specs.Stores.{replaced, same}
-use Rattle.tm32.specs.After.{after, lay, lendings, refused, reply, tell}
+use Rattle.tm32.specs.After.{after, callChecks, lay, noReply, replied, tell}
 use Rattle.tm32.specs.Checks.{checks, isLength, protections, verdict}
 use Rattle.tm32.specs.Device.{Device, deviceOf, sessionOf, withSession}
 use Rattle.tm32.specs.Fresh.{freshDevice, freshFlash, freshNvr, freshOptions, freshRam, freshSettings}
-use Rattle.tm32.specs.Map.{inNvr, pageCount}
+use Rattle.tm32.specs.Map.{flashLength, flashStart, inNvr, nvrLength, nvrStart, pageCount, ramLength, ramStart, userNvrLength, userNvrStart}
 use Rattle.tm32.specs.OptionMessages.{isTalking, optionMessage, readsOptions, touchesOptions}
 use Rattle.tm32.specs.Options.{inEither, rdpOn, underPcrop, underWrp}
 use Rattle.tm32.specs.Rates.{bitsPerSecond, isRate, rates}
-use Rattle.tm32.specs.Request.{exactly, longAt, readAs, requestIn, requestOf}
+use Rattle.tm32.specs.Numbers.{long, longAt}
+use Rattle.tm32.specs.Request.{exactly, readAs, requestIn, requestOf}
 use Rattle.tm32.specs.Respond.{greet, refuse, replyTo, respond, respondIn, serve, verdictOn}
 use Rattle.tm32.specs.Run.{restarted, run, sent}
-use Rattle.tm32.specs.Work.{commandWord, spi1, toldCommands, uart1, uart2, work}
+use Rattle.tm32.specs.Work.{commandWord, information, spi1, toldCommands, uart1, uart2, work}
 use Rattle.tm32.specs.declared.Link.the-variants.{Spi, Uart}
 use Rattle.tm32.specs.declared.State.the-variants.{Talking}
-use Rattle.demands.specs.Wire.{done, halfwords, handshake, heartBeat, hex, little, message, off, options, askRead, askReadOptions, shaken, askWriteOptions}
+use Rattle.demands.specs.Wire.{askRead, askReadOptions, askWriteOptions, done, halfwords, handshake, heartBeat, hex, little, message, off, options, shaken}
 
 -- Which of so many pages pass a test.
 unfoldable pub passing : (ℕ → Bool) → ℕ → List ℕ
@@ -66,6 +67,19 @@ rates-at-the-ends : map bitsPerSecond (0x00 ∷ 0x01 ∷ 0x0A ∷ 0x10 ∷ 0x11 
 unfolding bitsPerSecond isRate rates
 rates-at-the-ends = refl
 
+-- The last address of each part of the memory.
+last-addresses :
+    (flashStart + flashLength - 1) ∷ (ramStart + ramLength - 1) ∷ (nvrStart + nvrLength - 1) ∷ (userNvrStart + userNvrLength - 1) ∷ []
+    ≡ 0x08007FFF ∷ 0x20003FFF ∷ 0x1FFF17FF ∷ 0x1FFF17FF ∷ []
+last-addresses = refl
+
+-- What Get tells where all settings differ: version 01 02, serial 11 to 1C, package 21, model 22, links 0x34333231.
+information-told :
+    information (record { version = 0x01 ∷ 0x02 ∷ []; serial = hex 12 0x1112131415161718191A1B1C; «package» = 0x21; model = 0x22; links = 0x34333231 })
+    ≡ hex 24 0x01021112131415161718191A1B1C2122FF01000031323334
+unfolding hex information long word commandWord toldCommands
+information-told = refl
+
 -- The two words of Get that 01 gives.
 commands-told : commandWord ≡ 0x000001FF
 unfolding commandWord toldCommands
@@ -79,38 +93,42 @@ lent : List ℕ → List ℕ → List ℕ → ℕ → Device
 lent flash ram nvr rate = deviceOf (sessionOf Talking Uart rate) flash ram nvr
 
 refusals-in-order :
-    verdict 0 (lendings (lent [] [] [] 0) 1029)
-    ∷ verdict 0 (lendings (lent freshFlash [] [] 0) 1029)
-    ∷ verdict 0 (lendings (lent freshFlash freshRam [] 0) 1029)
-    ∷ verdict 0 (lendings (lent freshFlash freshRam freshNvr 0) 1029)
-    ∷ verdict 0 (lendings (lent freshFlash freshRam freshNvr 0) 1030)
-    ∷ verdict 0 (lendings (lent freshFlash freshRam freshNvr 0x10) 1030)
+    verdict 0 (callChecks (lent [] [] [] 0) 1029)
+    ∷ verdict 0 (callChecks (lent freshFlash [] [] 0) 1029)
+    ∷ verdict 0 (callChecks (lent freshFlash freshRam [] 0) 1029)
+    ∷ verdict 0 (callChecks (lent freshFlash freshRam freshNvr 0) 1029)
+    ∷ verdict 0 (callChecks (lent freshFlash freshRam freshNvr 0) 1030)
+    ∷ verdict 0 (callChecks (lent freshFlash freshRam freshNvr 0x10) 1030)
     ∷ []
     ≡ 1 ∷ 2 ∷ 3 ∷ 4 ∷ 5 ∷ 0 ∷ []
-unfolding lent verdict lendings isRate freshFlash freshRam freshNvr freshOptions replaced word
+unfolding lent verdict callChecks isRate freshFlash freshRam freshNvr freshOptions replaced word
 refusals-in-order = refl
 
 -- What reads or writes the option bytes of a device that Talks: 0x31, 0x32, and a Read that touches them. A Read beside them does not, nor one that is too long to be served.
 touching-the-options :
-    map (optionMessage (withSession freshDevice (sessionOf Talking Uart 0x0A)))
+    map (λ (one : List ℕ). optionMessage (withSession freshDevice (sessionOf Talking Uart 0x0A)) one 1030)
     (askWriteOptions off ∷ askReadOptions ∷ askRead 0x1FFF07FF 1 ∷ askRead 0x1FFF07FF 2 ∷ askRead 0x1FFF0815 1 ∷ askRead 0x1FFF0816 1 ∷ askRead 0x1FFF0800 1025 ∷ heartBeat ∷ [])
     ≡ true ∷ true ∷ false ∷ true ∷ true ∷ false ∷ false ∷ false ∷ []
-unfolding hex little message halfwords options freshDevice optionMessage isTalking touchesOptions readsOptions isLength inNvr within requestIn readAs requestOf exactly longAt reading wordAt dataOf frame covered word crc byteDone bitsDone bitDone shifted polynomial
+unfolding hex little message halfwords options freshDevice freshFlash freshRam freshNvr freshOptions replaced callChecks verdict isRate optionMessage isTalking touchesOptions readsOptions isLength inNvr within requestIn readAs requestOf exactly longAt reading wordAt dataOf frame covered word crc byteDone bitsDone bitDone shifted polynomial
 touching-the-options = refl
 
--- A device that Waits reads none of them.
-nothing-while-waiting : map (optionMessage freshDevice) (askWriteOptions off ∷ askReadOptions ∷ askRead 0x1FFF0800 1 ∷ []) ≡ false ∷ false ∷ false ∷ []
-unfolding freshDevice optionMessage isTalking
+-- A device that Waits reads none of them, and nobody does with too little room for the reply.
+nothing-while-waiting : map (λ (one : List ℕ). optionMessage freshDevice one 1030) (askWriteOptions off ∷ askReadOptions ∷ askRead 0x1FFF0800 1 ∷ []) ≡ false ∷ false ∷ false ∷ []
+unfolding freshDevice freshFlash freshRam freshNvr freshOptions replaced word callChecks verdict isRate optionMessage isTalking
 nothing-while-waiting = refl
+
+nothing-without-room : optionMessage (withSession freshDevice (sessionOf Talking Uart 0x0A)) askReadOptions 1029 ≡ false
+unfolding freshDevice freshFlash freshRam freshNvr freshOptions replaced word callChecks verdict isRate optionMessage
+nothing-without-room = refl
 
 -- A handshake, a heart beat with too little room, one with enough, and one more after a restart on SPI.
 a-short-run :
     run freshSettings freshDevice (sent handshake 1030 ∷ sent heartBeat 1029 ∷ sent heartBeat 1030 ∷ restarted Spi ∷ sent heartBeat 1030 ∷ []) .told
-    ≡ reply shaken ∷ refused 4 ∷ reply done ∷ reply (hex 6 0x2D8000009235) ∷ []
-unfolding hex run tell lendings verdict isRate respond respondIn greet serve replyTo refuse verdictOn checks protections work requestIn readAs requestOf exactly reading wordAt dataOf frame covered word crc byteDone bitsDone bitDone shifted polynomial same freshDevice freshFlash freshRam freshNvr freshOptions replaced
+    ≡ replied shaken ∷ noReply 4 ∷ replied done ∷ replied (hex 6 0x2D8000009235) ∷ []
+unfolding hex run tell callChecks verdict isRate respond respondIn greet serve replyTo refuse verdictOn checks protections work requestIn readAs requestOf exactly reading wordAt dataOf frame covered word crc byteDone bitsDone bitDone shifted polynomial same freshDevice freshFlash freshRam freshNvr freshOptions replaced
 a-short-run = refl
 
 -- The reply lies over the start of the buffer, and the rest of it is as it came.
 rest-of-the-buffer : after freshSettings freshDevice handshake (replicate 1040 0x11) .buffer ≡ 0x79 ∷ replicate 1039 0x11
-unfolding hex after lay laid tell lendings verdict isRate respond respondIn greet same freshDevice freshFlash freshRam freshNvr freshOptions replaced word
+unfolding hex after lay laid tell callChecks verdict isRate respond respondIn greet same freshDevice freshFlash freshRam freshNvr freshOptions replaced word
 rest-of-the-buffer = refl

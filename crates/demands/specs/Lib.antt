@@ -2,5 +2,6 @@
 pub mod Wire
 pub mod Cases
 pub mod Edges
+pub mod Bounds
 pub mod Examples
 pub mod Order

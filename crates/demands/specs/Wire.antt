@@ -1,5 +1,5 @@
--- Messages and bytes for the worked cases. A message is put together from its fields and framed; a reply is written out whole, as it stands on the wire. Two of them are printed in
--- document 01, and the CRCs of the others were worked out apart from the definitions under trial (docs/DECISIONS.md says how).
+-- Messages and bytes for the worked cases. A message is put together from its fields and framed; a reply is written out whole, as it stands on the wire. Two of the replies are printed
+-- in document 01, and the CRCs of the others were worked out apart from the definitions under trial (docs/DECISIONS.md says how).
 use Prim.Native.Nat.{ℕ, zero, suc, _/_, _%_, _^_}
 use mathlib.Core.List.{List, [], _∷_, _++_}
 use Rattle.frame.specs.Frame.{frame}
@@ -46,7 +46,7 @@ abbrev pub askWrite : ℕ → ℕ → List ℕ → List ℕ
 askWrite flag address bytes = message 0x12 (flag ∷ little 4 address ++ bytes)
 
 abbrev pub askMemoryCrc : ℕ → ℕ → ℕ → List ℕ
-askMemoryCrc address count sum = message 0x13 (little 4 address ++ little 4 count ++ little 2 sum)
+askMemoryCrc address count crc = message 0x13 (little 4 address ++ little 4 count ++ little 2 crc)
 
 abbrev pub askErase : ℕ → ℕ → List ℕ
 askErase first count = message 0x14 (little 2 first ++ little 2 count)

@@ -12,7 +12,7 @@ use lib.ListN.{length, drop, getD, drop-of-length-le}
 use lib.Seq.{drop-cons}
 use Rattle.memory.specs.Stores.{same}
 
--- two numbers are equal just where two tests pass, each of which their equality decides
+-- an equality that holds just where two tests pass is decided by the two
 both-pass : (test other : Bool) (a b : ℕ) → (test ≡ true → other ≡ true → a ≡ b) → (a ≡ b → (test ≡ true) × (other ≡ true))
     → eqb a b ≡ test && other
 both-pass true true a b equal both = eq-eqb a b (equal refl refl)

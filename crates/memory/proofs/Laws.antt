@@ -5,7 +5,7 @@
 --     length-masked, masked-at, length-kept, kept-at     what programming leaves of bytes that are given
 --     same-itself, same-equal                the comparison of two lists
 --     stored, not-stored, programmed, not-programmed     which answer a store gives, and what it leaves of the memory
---     answered                               the other way round: what is known of a store by its answer
+--     store-answered                         the other way round: what is known of a store by its answer
 --     in-region, region-holds                a range lies in a region just where both its ends do
 --     some-page, some-none, some-grows, some-either      whether some page of a run passes a test
 --     covered, covers-known, meets-is        ranges of page numbers
@@ -162,10 +162,10 @@ module _ (memory : List ℕ) (place : ℕ) (bytes : List ℕ) where
   not-stored short = simp (lt-leb _ _ short)
 
   -- the other way round: the answer is whether they fit, and says what the memory is now
-  pub answered : (done : Bool) (after : List ℕ) → change done after ≡ replacing memory place bytes
+  pub store-answered : (done : Bool) (after : List ℕ) → change done after ≡ replacing memory place bytes
       → (leb (place + length bytes) (length memory) ≡ done) × (after ≡ cond done (replaced memory place bytes) memory)
   unfolding replacing holds
-  answered done after equal = told done (leb (place + length bytes) (length memory)) after (replaced memory place bytes) memory equal
+  store-answered done after equal = told done (leb (place + length bytes) (length memory)) after (replaced memory place bytes) memory equal
 
   -- bytes that fit are programmed, and the answer is whether they are kept as given
   pub programmed : place + length bytes ≤ length memory → programming memory place bytes

@@ -25,8 +25,8 @@ somePage test run = someFrom test (run .first) (run .count)
 
 -- Whether a range of page numbers covers a page of a chip that has so many pages. Both ends are in; where the start is above the end nothing is; a page that the chip does not have never is.
 unfoldable pub covers : ℕ → ℕ → ℕ → ℕ → Bool
-covers pageCount start end page = ltb page pageCount && (leb start page && leb page end)
+covers total low high page = ltb page total && (leb low page && leb page high)
 
 -- Whether such a range covers some page of a run.
 unfoldable pub meets : ℕ → ℕ → ℕ → PageRun → Bool
-meets pageCount start end run = somePage (covers pageCount start end) run
+meets total low high run = somePage (covers total low high) run

@@ -1,4 +1,4 @@
--- Document 01, "The ten commands": a range lies in one region from its first to its last byte.
+-- Document 01, "The ten commands": ranges of addresses, and the regions that hold them.
 use Prim.Native.Nat.{ℕ, _+_}
 use mathlib.Core.Bool.{Bool, _&&_}
 use lib.Dec.{leb}

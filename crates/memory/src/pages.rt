@@ -41,19 +41,19 @@ pub fn meets(total: u32, low: u8, high: u8, pages: PageRun) -> bool
 {
     let first = pages.first as u64;
     let behind = first + (pages.count as u64);
-    let end = sooner((high as u64) + 1, total as u64);
-    later(first, low as u64) < sooner(behind, end)
+    let end = smaller((high as u64) + 1, total as u64);
+    larger(first, low as u64) < smaller(behind, end)
 }
 
 // The smaller of two numbers.
-fn sooner(a: u64, b: u64) -> u64
+fn smaller(a: u64, b: u64) -> u64
     ensures { λ r. ⌜ r ≡ min a b ⌝ }
 {
     if a < b { a } else { b }
 }
 
 // The larger of two numbers.
-fn later(a: u64, b: u64) -> u64
+fn larger(a: u64, b: u64) -> u64
     ensures { λ r. ⌜ r ≡ max a b ⌝ }
 {
     if a < b { b } else { a }

@@ -1,11 +1,11 @@
--- Document 01, "When nothing is done": what is tested before the message is looked at, and where the reply is laid.
-use Prim.Native.Nat.{ℕ}
+-- Document 01, "When nothing is done": what is tested of a call before anything else, and where the reply is laid.
+use Prim.Native.Nat.{ℕ, _+_}
 use mathlib.Core.Bool.{cond, not}
 use mathlib.Core.List.{List, [], _∷_}
 use lib.Dec.{eqb, ltb}
 use lib.ListN.{length}
-use Rattle.frame.specs.Frame.{laid}
-use Rattle.tm32.specs.Checks.{Check, check, verdict}
+use Rattle.frame.specs.Frame.{laid, overhead}
+use Rattle.tm32.specs.Checks.{Check, check, mostBytes, verdict}
 use Rattle.tm32.specs.Device.{Device}
 use Rattle.tm32.specs.Map.{flashLength, nvrLength, ramLength}
 use Rattle.tm32.specs.Rates.{isRate}
@@ -14,13 +14,13 @@ use Rattle.tm32.specs.declared.Answer.{Answer}
 use Rattle.tm32.specs.declared.Answer.the-variants.{Reply, Refused}
 use Rattle.tm32.specs.declared.Settings.{Settings}
 
--- How long a lent reply buffer must be at least: a frame with 1,024 bytes of data.
+-- How long a lent reply buffer must be at least: room for a frame with as much data as a Read gives.
 abbrev pub replyRoom : ℕ
-replyRoom = 1030
+replyRoom = mostBytes + overhead
 
 -- Numbers 1 to 5, in order: the lengths of flash, RAM and NVR, the room for the reply, and the session's rate code.
-unfoldable pub lendings : Device → ℕ → List Check
-lendings device room =
+unfoldable pub callChecks : Device → ℕ → List Check
+callChecks device room =
     check (not (eqb (length (device .flash)) flashLength)) 1
     ∷ check (not (eqb (length (device .ram)) ramLength)) 2
     ∷ check (not (eqb (length (device .nvr)) nvrLength)) 3
@@ -28,12 +28,12 @@ lendings device room =
     ∷ check (not (isRate (device .session .rate))) 5
     ∷ []
 
--- What the host is told: a reply, or a number from 1 to 5 and no reply.
+-- What the caller is told: the reply to hand on, or that there is none, with a number from 1 to 5.
 pub data Told : Type 0 where
-  reply : List ℕ → Told
-  refused : ℕ → Told
+  replied : List ℕ → Told
+  noReply : ℕ → Told
 
--- The device afterwards, and what the host is told.
+-- The device afterwards, and what the caller is told.
 pub record Telling : Type 0 where
   pub device : Device
   pub told : Told
@@ -42,12 +42,12 @@ pub record Telling : Type 0 where
 abbrev pub telling : Device → Told → Telling
 telling device told = record { device = device; told = told }
 
--- The answer to a message, with so much room for the reply. A number from 1 to 5 comes before the message is looked at, and changes nothing.
+-- The answer to a message, with so much room for the reply. Whatever the message is, a call that fails a check is told its number, and nothing changes.
 unfoldable pub tell : Settings → Device → List ℕ → ℕ → Telling
 tell settings device message room =
-    let number : ℕ = verdict 0 (lendings device room) in
-    let answer : Answered = respond settings device message in
-    cond (eqb number 0) (telling (answer .device) (reply (answer .reply))) (telling device (refused number))
+    let number : ℕ = verdict 0 (callChecks device room) in
+    let response : Answered = respond settings device message in
+    cond (eqb number 0) (telling (response .device) (replied (response .reply))) (telling device (noReply number))
 
 -- All that a message leaves behind: the device, the answer, and the lent reply buffer.
 pub record After : Type 0 where
@@ -61,11 +61,11 @@ afterOf device answer buffer = record { device = device; answer = answer; buffer
 
 -- A reply is laid over the start of the buffer, whose other bytes are as they came. A number from 1 to 5 leaves all of it.
 unfoldable pub lay : List ℕ → Device → Told → After
-lay buffer device (reply bytes) = afterOf device (Reply (length bytes)) (laid bytes buffer)
-lay buffer device (refused number) = afterOf device (Refused number) buffer
+lay buffer device (replied bytes) = afterOf device (Reply (length bytes)) (laid bytes buffer)
+lay buffer device (noReply number) = afterOf device (Refused number) buffer
 
 -- What a message does to a device and to the lent reply buffer.
 unfoldable pub after : Settings → Device → List ℕ → List ℕ → After
 after settings device message buffer =
-    let answer : Telling = tell settings device message (length buffer) in
-    lay buffer (answer .device) (answer .told)
+    let outcome : Telling = tell settings device message (length buffer) in
+    lay buffer (outcome .device) (outcome .told)

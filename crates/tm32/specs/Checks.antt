@@ -1,14 +1,14 @@
--- Document 01, "A message and its reply" and "Who may touch which page": the checks, in order. The first that fails is the reply.
+-- Document 01, "A message and its reply" and "Who may touch which page": the checks, in order, and what becomes of them.
 use Prim.Native.Nat.{ℕ, _+_, _-_}
 use mathlib.Core.Bool.{Bool, true, false, cond, not, _&&_}
 use mathlib.Core.List.{List, [], _∷_, _++_}
 use lib.Dec.{eqb, leb, ltb}
 use Rattle.memory.specs.declared.PageRun.{PageRun}
 use Rattle.memory.specs.Pages.{pages, somePage, touched}
-use Rattle.tm32.specs.Map.{flashStart, inFlash, pageCount, pageSize, readable, runnable, writable}
+use Rattle.tm32.specs.Map.{flashStart, inFlash, pageCount, pageSize, inReadRegion, inGoRegion, inUserRegion}
 use Rattle.tm32.specs.Options.{rdpOn, underPcrop, underWrp}
 use Rattle.tm32.specs.Rates.{isRate}
-use Rattle.tm32.specs.Results.{wrongShape, wrongLink, wrongRate, wrongLength, wrongPageCount, wrongAddress, readProtected, pageReadProtected, writeProtected}
+use Rattle.tm32.specs.Results.{wrongShape, wrongLink, wrongRate, wrongLength, wrongPageCount, wrongAddress, readProtected, pcropProtected, writeProtected}
 use Rattle.tm32.specs.declared.Link.{Link}
 use Rattle.tm32.specs.declared.Link.the-variants.{Uart, Spi, I2c}
 use Rattle.tm32.specs.declared.Request.{Request}
@@ -23,7 +23,7 @@ pub record Check : Type 0 where
 abbrev pub check : Bool → ℕ → Check
 check fails number = record { fails = fails; number = number }
 
--- The number of the first check that fails, or another one where none does.
+-- The number of the first check that fails, or `passed` where none does. No check has that for its number.
 unfoldable pub verdict : ℕ → List Check → ℕ
 verdict passed [] = passed
 verdict passed (first ∷ rest) = cond (first .fails) (first .number) (verdict passed rest)
@@ -34,23 +34,27 @@ isUart Uart = true
 isUart Spi = false
 isUart I2c = false
 
--- Read and Write take 1 to 1,024 bytes.
+-- The most bytes that Read and Write take.
+abbrev pub mostBytes : ℕ
+mostBytes = 1024
+
+-- They take 1 byte to so many.
 unfoldable pub isLength : ℕ → Bool
-isLength count = leb 1 count && leb count 1024
+isLength count = leb 1 count && leb count mostBytes
 
 -- Erase takes 1 page to all of them.
 unfoldable pub isPageCount : ℕ → Bool
 isPageCount count = leb 1 count && leb count pageCount
 
--- What is checked before protection: shape, link, rate, length, page count, address, each where the command has it.
+-- What is checked before protection: shape, link, rate, length, page count, address, of each command those that it has.
 unfoldable pub checks : Link → Request → List Check
 checks link (Pps code) = check (not (isUart link)) wrongLink ∷ check (not (isRate code)) wrongRate ∷ []
 checks link Get = []
-checks link (Read address count) = check (not (isLength count)) wrongLength ∷ check (not (readable address count)) wrongAddress ∷ []
-checks link (Write flag address count) = check (not (isLength count)) wrongLength ∷ check (not (writable address count)) wrongAddress ∷ []
-checks link (MemoryCrc address count sum) = check (eqb count 0) wrongLength ∷ check (not (writable address count)) wrongAddress ∷ []
+checks link (Read address count) = check (not (isLength count)) wrongLength ∷ check (not (inReadRegion address count)) wrongAddress ∷ []
+checks link (Write flag address count) = check (not (isLength count)) wrongLength ∷ check (not (inUserRegion address count)) wrongAddress ∷ []
+checks link (MemoryCrc address count wanted) = check (eqb count 0) wrongLength ∷ check (not (inUserRegion address count)) wrongAddress ∷ []
 checks link (Erase first count) = check (not (isPageCount count)) wrongPageCount ∷ check (ltb pageCount (first + count)) wrongAddress ∷ []
-checks link (Go address) = check (not (runnable address)) wrongAddress ∷ []
+checks link (Go address) = check (not (inGoRegion address)) wrongAddress ∷ []
 checks link WriteOptions = []
 checks link ReadOptions = []
 checks link HeartBeat = []
@@ -62,19 +66,19 @@ flashPages address count = cond (inFlash address count) (touched pageSize (addre
 
 -- Against looking at pages: read protection, where there is a page at all, then PCROP.
 unfoldable pub readChecks : List ℕ → PageRun → List Check
-readChecks options run = check (ltb 0 (run .count) && rdpOn options) readProtected ∷ check (somePage (underPcrop options) run) pageReadProtected ∷ []
+readChecks options run = check (ltb 0 (run .count) && rdpOn options) readProtected ∷ check (somePage (underPcrop options) run) pcropProtected ∷ []
 
 -- Against changing pages: write protection.
 unfoldable pub writeChecks : List ℕ → PageRun → List Check
 writeChecks options run = check (somePage (underWrp options) run) writeProtected ∷ []
 
--- Protection. Erase is under all three. Write is not refused for RDP or PCROP; Go and the option commands are free.
+-- Protection. Read and Memory CRC look at pages, Write changes them, and Erase counts as both. The other commands touch no page.
 unfoldable pub protections : List ℕ → Request → List Check
 protections options (Pps code) = []
 protections options Get = []
 protections options (Read address count) = readChecks options (flashPages address count)
 protections options (Write flag address count) = writeChecks options (flashPages address count)
-protections options (MemoryCrc address count sum) = readChecks options (flashPages address count)
+protections options (MemoryCrc address count wanted) = readChecks options (flashPages address count)
 protections options (Erase first count) = readChecks options (pages first count) ++ writeChecks options (pages first count)
 protections options (Go address) = []
 protections options WriteOptions = []

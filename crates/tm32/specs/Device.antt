@@ -9,6 +9,10 @@ use Rattle.tm32.specs.declared.Session.{Session}
 use Rattle.tm32.specs.declared.State.{State}
 use Rattle.tm32.specs.declared.State.the-variants.{Waiting}
 
+-- What a CRC of this chip starts from, in frames and in Memory CRC.
+abbrev pub crcStart : ℕ
+crcStart = 0
+
 -- A session. It is put together here and nowhere else.
 abbrev pub sessionOf : State → Link → ℕ → Session
 sessionOf state link rate = record { state = state; link = link; rate = rate }
@@ -24,7 +28,7 @@ atRate session rate = sessionOf (session .state) (session .link) rate
 abbrev pub startRate : ℕ
 startRate = 0x0A
 
--- A start on a link: Waiting, at the first rate.
+-- A start on a link: Waiting, at the rate of a start.
 abbrev pub start : Link → Session
 start link = sessionOf Waiting link startRate
 
@@ -56,7 +60,7 @@ withRam device ram = deviceOf (device .session) (device .flash) ram (device .nvr
 abbrev pub withNvr : Device → List ℕ → Device
 withNvr device nvr = deviceOf (device .session) (device .flash) (device .ram) nvr
 
--- The bytes that a range names, in the region that holds it.
+-- The bytes that a range names, in the region that holds it. What is in neither flash nor RAM is in NVR: the checks let no other range through.
 unfoldable pub bytesAt : Device → ℕ → ℕ → List ℕ
 bytesAt device address count =
     cond (inFlash address count) (part (device .flash) (address - flashStart) count)

@@ -3,7 +3,7 @@ use Prim.Native.Nat.{ℕ, _*_}
 use mathlib.Core.Bool.{Bool, _||_}
 use Rattle.memory.specs.Ranges.{within}
 
--- How long a page of the flash is, and how many there are. The count stands here and nowhere else.
+-- How long a page of the flash is, and how many there are. Every other definition takes the count from here, and the code's own is proved equal to it.
 abbrev pub pageSize : ℕ
 pageSize = 1024
 
@@ -49,7 +49,7 @@ optionsLength = 22
 abbrev pub blank : ℕ
 blank = 0xFF
 
--- Whether so many bytes from an address on lie in one region, from the first to the last.
+-- Whether so many bytes from an address on all lie in the one region.
 unfoldable pub inFlash : ℕ → ℕ → Bool
 inFlash address count = within flashStart flashLength address count
 
@@ -62,14 +62,14 @@ inNvr address count = within nvrStart nvrLength address count
 unfoldable pub inUserNvr : ℕ → ℕ → Bool
 inUserNvr address count = within userNvrStart userNvrLength address count
 
--- What Read may name.
-unfoldable pub readable : ℕ → ℕ → Bool
-readable address count = inFlash address count || inRam address count || inNvr address count
+-- The ranges that Read may name. Whether they are protected is asked later.
+unfoldable pub inReadRegion : ℕ → ℕ → Bool
+inReadRegion address count = inFlash address count || inRam address count || inNvr address count
 
--- What Write and Memory CRC may name.
-unfoldable pub writable : ℕ → ℕ → Bool
-writable address count = inFlash address count || inRam address count || inUserNvr address count
+-- The ranges that Write and Memory CRC may name.
+unfoldable pub inUserRegion : ℕ → ℕ → Bool
+inUserRegion address count = inFlash address count || inRam address count || inUserNvr address count
 
--- Where Go may jump: eight bytes from there on must be in flash or RAM. None of them is looked at.
-unfoldable pub runnable : ℕ → Bool
-runnable address = inFlash address 8 || inRam address 8
+-- Where Go may jump: a stack pointer and a reset vector must fit in flash or RAM from there on. What they are does not matter.
+unfoldable pub inGoRegion : ℕ → Bool
+inGoRegion address = inFlash address 8 || inRam address 8

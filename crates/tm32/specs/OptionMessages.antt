@@ -1,9 +1,10 @@
--- Document 01, "Who may touch which page": the messages that read or write the option bytes, by what they do. Where two devices of other options are compared, these stand apart.
+-- Document 01, "Who may touch which page": the messages that read or write the option bytes, by what they do. Where devices with different options are compared, these messages stand apart.
 use Prim.Native.Nat.{ℕ, _+_}
 use mathlib.Core.Bool.{Bool, true, false, _&&_}
 use mathlib.Core.List.{List}
-use lib.Dec.{ltb}
-use Rattle.tm32.specs.Checks.{isLength}
+use lib.Dec.{eqb, ltb}
+use Rattle.tm32.specs.After.{callChecks}
+use Rattle.tm32.specs.Checks.{isLength, verdict}
 use Rattle.tm32.specs.Device.{Device}
 use Rattle.tm32.specs.Map.{inNvr, optionsLength, optionsStart}
 use Rattle.tm32.specs.Request.{requestIn}
@@ -23,7 +24,7 @@ touchesOptions (Pps code) = false
 touchesOptions Get = false
 touchesOptions (Read address count) = readsOptions address count
 touchesOptions (Write flag address count) = false
-touchesOptions (MemoryCrc address count sum) = false
+touchesOptions (MemoryCrc address count wanted) = false
 touchesOptions (Erase first count) = false
 touchesOptions (Go address) = false
 touchesOptions WriteOptions = true
@@ -37,6 +38,7 @@ isTalking Waiting = false
 isTalking Talking = true
 isTalking (Gone address) = false
 
--- Whether a message, sent to a device, reads or writes its option bytes.
-unfoldable pub optionMessage : Device → List ℕ → Bool
-optionMessage device message = isTalking (device .session .state) && touchesOptions (requestIn message)
+-- Whether a message, sent to a device with so much room for the reply, reads or writes its option bytes. A call that is refused with 1 to 5 does neither.
+unfoldable pub optionMessage : Device → List ℕ → ℕ → Bool
+optionMessage device message room =
+    eqb (verdict 0 (callChecks device room)) 0 && isTalking (device .session .state) && touchesOptions (requestIn message)

@@ -1,7 +1,8 @@
--- Document 01, "Who may touch which page": what the 22 option bytes say. All bits that are not named here are kept and mean nothing.
+-- Document 01, "Who may touch which page": what the 22 option bytes say. A bit that no definition here looks at says nothing; it is stored and read back like the others.
 use Prim.Native.Nat.{ℕ, _+_, _*_, _-_}
-use mathlib.Core.Bool.{Bool, not, _||_}
+use mathlib.Core.Bool.{Bool, true, not, _||_}
 use mathlib.Core.List.{List}
+use mathlib.Core.Path.{_≡_}
 use lib.Dec.{eqb}
 use lib.ListN.{getD}
 use Rattle.memory.specs.Pages.{covers}
@@ -35,3 +36,9 @@ underPcrop options = inEither options 3
 -- Whether a page is under WRP: two ranges, in halfwords 7 and 8, and 9 and 10.
 abbrev pub underWrp : List ℕ → ℕ → Bool
 underWrp options = inEither options 7
+
+-- Whether the first option bytes protect all that the second do: read protection, and each page under PCROP or WRP.
+pub record ProtectAll (strict loose : List ℕ) : Type 0 where
+  pub rdp : rdpOn loose ≡ true → rdpOn strict ≡ true
+  pub pcrop : (page : ℕ) → underPcrop loose page ≡ true → underPcrop strict page ≡ true
+  pub wrp : (page : ℕ) → underWrp loose page ≡ true → underWrp strict page ≡ true

@@ -1,5 +1,5 @@
 -- Document 01, "A message and its reply" and "The ten commands": what a Talking device reads in a message.
-use Prim.Native.Nat.{ℕ, _+_, _*_, _-_}
+use Prim.Native.Nat.{ℕ, _-_}
 use mathlib.Core.Bool.{cond}
 use mathlib.Core.List.{List}
 use lib.Dec.{eqb, ltb}
@@ -7,16 +7,11 @@ use lib.ListN.{length, getD}
 use Rattle.frame.specs.Frame.{dataOf, reading, wordAt}
 use Rattle.frame.specs.declared.Reading.{Reading}
 use Rattle.frame.specs.declared.Reading.the-variants.{Sound, Spoiled}
+use Rattle.tm32.specs.Device.{crcStart}
+use Rattle.tm32.specs.Map.{optionsLength}
+use Rattle.tm32.specs.Numbers.{longAt}
 use Rattle.tm32.specs.declared.Request.{Request}
 use Rattle.tm32.specs.declared.Request.the-variants.{Pps, Get, Read, Write, MemoryCrc, Erase, Go, WriteOptions, ReadOptions, HeartBeat, Misshapen}
-
--- What a CRC of this chip starts from, in frames and in Memory CRC.
-abbrev pub crcStart : ℕ
-crcStart = 0
-
--- The number of 32 bits in the four bytes from a place on, low byte first.
-unfoldable pub longAt : List ℕ → ℕ → ℕ
-longAt bytes place = wordAt bytes place + 0x10000 * wordAt bytes (place + 2)
 
 -- A request whose data must be just so long.
 unfoldable pub exactly : ℕ → List ℕ → Request → Request
@@ -39,14 +34,14 @@ requestOf command payload =
     (cond (eqb command 0x13) (exactly 10 payload (MemoryCrc (longAt payload 0) (longAt payload 4) (wordAt payload 8)))
     (cond (eqb command 0x14) (exactly 4 payload (Erase (wordAt payload 0) (wordAt payload 2)))
     (cond (eqb command 0x21) (exactly 4 payload (Go (longAt payload 0)))
-    (cond (eqb command 0x31) (exactly 22 payload WriteOptions)
+    (cond (eqb command 0x31) (exactly optionsLength payload WriteOptions)
     (cond (eqb command 0x32) (exactly 0 payload ReadOptions)
     (cond (eqb command 0x41) (exactly 0 payload HeartBeat)
     Misshapen)))))))))
 
 -- A message that is no sound frame asks for nothing.
 unfoldable pub readAs : Reading → List ℕ → Request
-readAs (Sound second count) payload = requestOf second payload
+readAs (Sound command count) payload = requestOf command payload
 readAs (Spoiled place) payload = Misshapen
 
 -- What a message asks for.

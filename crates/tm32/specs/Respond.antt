@@ -1,4 +1,4 @@
--- Document 01, "A message and its reply": what a device does with a message, and what it replies. Lent buffers come later, in `After`.
+-- Document 01, "A message and its reply": what a device does with a message, and what it replies, where its memory has the lengths of the map. `After` sees to that, and to the reply buffer.
 use Prim.Native.Nat.{ℕ}
 use mathlib.Core.Bool.{cond}
 use mathlib.Core.List.{List, [], _∷_, _++_}
@@ -7,9 +7,9 @@ use lib.ListN.{length}
 use Rattle.frame.specs.Frame.{dataOf, frame}
 use Rattle.memory.specs.Stores.{same}
 use Rattle.tm32.specs.Checks.{checks, protections, verdict}
-use Rattle.tm32.specs.Device.{Device, inState, withSession}
+use Rattle.tm32.specs.Device.{Device, crcStart, inState, withSession}
 use Rattle.tm32.specs.Options.{optionBytes}
-use Rattle.tm32.specs.Request.{crcStart, requestIn}
+use Rattle.tm32.specs.Request.{requestIn}
 use Rattle.tm32.specs.Results.{noHandshake, workDone}
 use Rattle.tm32.specs.Work.{Worked, work}
 use Rattle.tm32.specs.declared.Request.{Request}
@@ -56,7 +56,8 @@ serve settings device payload request =
 unfoldable pub greet : Device → Answered
 greet device = answered (withSession device (inState (device .session) Talking)) helloBack
 
--- A message that is not empty: Gone answers nothing; the handshake is answered in Waiting and Talking; anything else is refused in Waiting and read in Talking.
+-- A message that is not empty. A device that has Gone answers nothing. The handshake is answered in the other two states; any other message is refused while Waiting, and read while
+-- Talking.
 unfoldable pub respondIn : State → Settings → Device → List ℕ → Answered
 respondIn Waiting settings device message = cond (same message hello) (greet device) (refuse device noHandshake)
 respondIn Talking settings device message = cond (same message hello) (greet device) (serve settings device (dataOf message) (requestIn message))

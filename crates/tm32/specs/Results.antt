@@ -1,4 +1,4 @@
--- Document 01, "A message and its reply" and "When nothing is done": the results, each the byte that stands in the command's place of a reply. 0x93 never occurs here.
+-- Document 01, "A message and its reply" and "When nothing is done": the results, each the byte that stands in the command's place of a reply. 000 has one more, 0x93, which this device never gives.
 use Prim.Native.Nat.{ℕ}
 
 -- Work done.
@@ -38,16 +38,16 @@ abbrev pub readProtected : ℕ
 readProtected = 0x62
 
 -- A touched page is under PCROP.
-abbrev pub pageReadProtected : ℕ
-pageReadProtected = 0x63
+abbrev pub pcropProtected : ℕ
+pcropProtected = 0x63
 
 -- A touched page is under write protection (WRP).
 abbrev pub writeProtected : ℕ
 writeProtected = 0x61
 
--- The memory's CRC is not the one that was sent.
-abbrev pub wrongSum : ℕ
-wrongSum = 0xF4
+-- The CRC of the memory is not the one that was sent.
+abbrev pub wrongCrc : ℕ
+wrongCrc = 0xF4
 
 -- What was written does not read back as it was sent. The work is done all the same.
 abbrev pub readbackDiffers : ℕ

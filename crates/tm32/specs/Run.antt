@@ -11,7 +11,7 @@ pub data Event : Type 0 where
   sent : List ℕ → ℕ → Event
   restarted : Link → Event
 
--- What a run leaves behind: the device, and what the host was told, a telling for each message.
+-- What a run leaves behind: the device, and what the caller was told, once for each message.
 pub record Ran : Type 0 where
   pub device : Device
   pub told : List Told

@@ -1,17 +1,16 @@
 -- Document 01, "The ten commands" and "Who may touch which page": what an accepted request does.
-use Prim.Native.Nat.{ℕ, zero, suc, _-_, _*_, _/_, _^_}
+use Prim.Native.Nat.{ℕ, zero, suc, _-_, _*_, _^_}
 use mathlib.Core.Bool.{Bool, cond, not, _&&_}
 use mathlib.Core.List.{List, [], _∷_, _++_}
 use lib.Dec.{eqb}
 use lib.ListN.{length, drop, replicate}
 use Rattle.frame.specs.Crc.{crc}
-use Rattle.frame.specs.Frame.{word}
 use Rattle.memory.specs.Stores.{kept, replaced, same}
-use Rattle.tm32.specs.Device.{Device, atRate, bytesAt, deviceOf, inState, withFlash, withNvr, withRam, withSession}
+use Rattle.tm32.specs.Device.{Device, atRate, bytesAt, crcStart, deviceOf, inState, withFlash, withNvr, withRam, withSession}
 use Rattle.tm32.specs.Map.{blank, flashStart, inFlash, inRam, nvrStart, optionsStart, pageCount, pageSize, ramStart}
+use Rattle.tm32.specs.Numbers.{long}
 use Rattle.tm32.specs.Options.{optionBytes, rdpOn}
-use Rattle.tm32.specs.Request.{crcStart}
-use Rattle.tm32.specs.Results.{readbackDiffers, workDone, wrongShape, wrongSum}
+use Rattle.tm32.specs.Results.{readbackDiffers, workDone, wrongShape, wrongCrc}
 use Rattle.tm32.specs.declared.Request.{Request}
 use Rattle.tm32.specs.declared.Request.the-variants.{Pps, Get, Read, Write, MemoryCrc, Erase, Go, WriteOptions, ReadOptions, HeartBeat, Misshapen}
 use Rattle.tm32.specs.declared.Settings.{Settings}
@@ -57,10 +56,6 @@ i2c1 = 2 ^ 5
 abbrev pub i2c2 : ℕ
 i2c2 = 2 ^ 6
 
--- A number of 32 bits as it stands on the wire, low byte first.
-unfoldable pub long : ℕ → List ℕ
-long number = word number ++ word (number / 0x10000)
-
 -- The 24 bytes of Get: version, serial, package, model, commands, links.
 unfoldable pub information : Settings → List ℕ
 information settings =
@@ -81,7 +76,7 @@ readback flag address bytes after =
 
 -- Memory CRC: the frame's own CRC over the range, against the one that was sent.
 unfoldable pub compared : Device → ℕ → ℕ → ℕ → ℕ
-compared device address count sum = cond (eqb (crc crcStart (bytesAt device address count)) sum) workDone wrongSum
+compared device address count wanted = cond (eqb (crc crcStart (bytesAt device address count)) wanted) workDone wrongCrc
 
 -- Erase: so many pages from the first on become blank.
 unfoldable pub erased : List ℕ → ℕ → ℕ → List ℕ
@@ -91,14 +86,14 @@ erased flash first count = replaced flash (first * pageSize) (replicate (count *
 unfoldable pub wipes : List ℕ → List ℕ → ℕ → Bool
 wipes old new page = rdpOn old && not (rdpOn new)
 
--- The flash with those of its first pages erased that writing the options wipes.
+-- The flash once the wipe has gone over its first so many pages.
 unfoldable pub wiped : List ℕ → List ℕ → ℕ → List ℕ → List ℕ
 wiped old new zero flash = flash
 wiped old new (suc page) flash =
     let rest : List ℕ = wiped old new page flash in
     cond (wipes old new page) (erased rest page 1) rest
 
--- Write options: first the wipe, then the bytes are stored, and are in force at once.
+-- Write options: first the wipe, then the bytes are stored. The next message already meets them.
 unfoldable pub withOptions : Device → List ℕ → Device
 withOptions device options =
     deviceOf (device .session)
@@ -106,7 +101,7 @@ withOptions device options =
     (device .ram)
     (replaced (device .nvr) (optionsStart - nvrStart) options)
 
--- The work of each command, with the data of its frame. Only Get, Read and Read options reply with data.
+-- The work of each command, given the data of its frame. Three of them have data for their reply.
 unfoldable pub work : Settings → Device → List ℕ → Request → Worked
 work settings device payload (Pps code) = worked workDone [] (withSession device (atRate (device .session) code))
 work settings device payload Get = worked workDone (information settings) device
@@ -114,7 +109,7 @@ work settings device payload (Read address count) = worked workDone (bytesAt dev
 work settings device payload (Write flag address count) =
     let after : Device = written device address (drop 5 payload) in
     worked (readback flag address (drop 5 payload) after) [] after
-work settings device payload (MemoryCrc address count sum) = worked (compared device address count sum) [] device
+work settings device payload (MemoryCrc address count wanted) = worked (compared device address count wanted) [] device
 work settings device payload (Erase first count) = worked workDone [] (withFlash device (erased (device .flash) first count))
 work settings device payload (Go address) = worked workDone [] (withSession device (inState (device .session) (Gone address)))
 work settings device payload WriteOptions = worked workDone [] (withOptions device payload)

@@ -23,7 +23,7 @@ pub enum Link {
     I2c,
 }
 
-// A session, handed in and handed back changed. The rate is the code of PPS, and not bits per second.
+// A session, a value that each message takes and gives back. The rate is the code of PPS, and not bits per second.
 pub struct Session {
     pub state: State,
     pub link: Link,
@@ -46,13 +46,13 @@ pub enum Request {
     Get,
     Read { address: u32, count: u32 },
     Write { flag: u8, address: u32, count: u32 },
-    MemoryCrc { address: u32, count: u32, sum: u16 },
+    MemoryCrc { address: u32, count: u32, crc: u16 },
     Erase { first: u32, count: u32 },
     Go { address: u32 },
     WriteOptions,
     ReadOptions,
     HeartBeat,
-    // No frame, an unknown command, a data length that is wrong for the command, or a readback flag above 1.
+    // None of the ten: what 01 calls a failure of shape.
     Misshapen,
 }
 

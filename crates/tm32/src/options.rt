@@ -11,7 +11,7 @@ ghost use Rattle.tm32.specs.Options.{inEither, inRange, lowByte, rdpOn, 
 // The low byte of halfword 1 that means no read protection.
 const RDP_OFF: u8 = 0xAA;
 
-// The halfwords in which the first of two ranges starts. It ends in the next, and behind it stands the second.
+// Of each two ranges, the halfword in which the first starts. Its end stands in the next halfword, and the second range behind it.
 const PCROP: usize = 3;
 
 const WRP: usize = 7;
@@ -68,7 +68,7 @@ fn in_either(options: &[u8], halfword: usize, page: u32) -> bool
     in_range(options, halfword + 2, page)
 }
 
-// Whether some page of a run is.
+// Whether some page of a run is in one of the two ranges.
 fn either_meets(options: &[u8], halfword: usize, pages: PageRun) -> bool
     requires { ⌜ length (now options) ≡ optionsLength ⌝ }
     requires { ⌜ (1 ≤ halfword) × (halfword < 9) ⌝ }

@@ -17,28 +17,28 @@ cast-behind c = search needs
 add-behind : tie.Need-add-behind
 add-behind c = search needs
 
-add-sooner : tie.Need-add-sooner
-add-sooner c = search needs
+add-smaller : tie.Need-add-smaller
+add-smaller c = search needs
 
-sooner-requires : tie.Need-sooner-requires
-sooner-requires c κs = search needs
+smaller-requires : tie.Need-smaller-requires
+smaller-requires c κs = search needs
 
-later-requires : tie.Need-later-requires
-later-requires c κs = search needs
+larger-requires : tie.Need-larger-requires
+larger-requires c κs = search needs
 
-sooner-requires-2 : tie.Need-sooner-requires-2
-sooner-requires-2 c κs = search needs
+smaller-requires-2 : tie.Need-smaller-requires-2
+smaller-requires-2 c κs = search needs
 
 returns : tie.Need-returns
 unfolding meets somePage
 returns c =
-    let at-later = c .before in
-    let at-sooner = at-later .before in
-    let args = at-sooner .before .before .before .args in
-    let ended : c .sooner2 .result ≡ min (args .pages .first + args .pages .count) (min (args .high + 1) (args .total)) =
-    c .sooner2 .ensures ∙ ap (min (args .pages .first + args .pages .count)) (at-sooner .sooner .ensures)
+    let at-larger = c .before in
+    let at-smaller = at-larger .before in
+    let args = at-smaller .before .before .before .args in
+    let ended : c .smaller2 .result ≡ min (args .pages .first + args .pages .count) (min (args .high + 1) (args .total)) =
+    c .smaller2 .ensures ∙ ap (min (args .pages .first + args .pages .count)) (at-smaller .smaller .ensures)
     in
-    ap₂ ltb (at-later .later .ensures) ended
+    ap₂ ltb (at-larger .larger .ensures) ended
     ∙ sym (some-covered (args .total) (args .low) (args .high) (args .pages .count) (args .pages .first))
 
 pub meets-spec : {M : Type 1} → statement M
@@ -48,8 +48,8 @@ meets-spec =
     cast-first
     cast-behind
     add-behind
-    add-sooner
-    sooner-requires
-    later-requires
-    sooner-requires-2
+    add-smaller
+    smaller-requires
+    larger-requires
+    smaller-requires-2
     returns)

@@ -1,7 +1,10 @@
 -- `tm32::options::range_meets` meets its contract: the two bytes that are handed on are the definition's.
-use mathlib.Core.Path.{_∙_}
+use Prim.Native.Nat.{ℕ}
+use mathlib.Core.Path.{ap₂, _∙_}
 use borrow.Author.Needs.{needs}
-use Rattle.memory.specs.Pages.{meets}
+use Rattle.memory.proofs.Laws.{meets-is}
+use Rattle.memory.specs.Pages.{covers, somePage}
+use Rattle.tm32.specs.Map.{pageCount}
 use Rattle.tm32.proofs.options.range_meets.Statement.{statement}
 use Rattle.tm32.proofs.options.range_meets.Tie as tie
 
@@ -18,8 +21,11 @@ meets-requires : tie.Need-meets-requires
 meets-requires c κs = search needs
 
 returns : tie.Need-returns
-unfolding meets
-returns c = c .meets .ensures ∙ cc
+returns c =
+    let args = c .before .before .before .before .args in
+    c .meets .ensures
+    ∙ meets-is _ _ _ _
+    ∙ ap₂ (λ (low high : ℕ). somePage (covers pageCount low high) (args .pages)) (c .before .before .low-byte .ensures) (c .before .low-byte2 .ensures)
 
 pub range-meets-spec : {M : Type 1} → statement M
 range-meets-spec =

@@ -1,0 +1,12 @@
+-- Document 01, "The chip on the bench": numbers of 32 bits as they stand in a message, the low byte first.
+use Prim.Native.Nat.{ℕ, _+_, _*_, _/_}
+use mathlib.Core.List.{List, _++_}
+use Rattle.frame.specs.Frame.{word, wordAt}
+
+-- A number in four bytes.
+unfoldable pub long : ℕ → List ℕ
+long number = word number ++ word (number / 0x10000)
+
+-- The number in the four bytes from a place on.
+unfoldable pub longAt : List ℕ → ℕ → ℕ
+longAt bytes place = wordAt bytes place + 0x10000 * wordAt bytes (place + 2)
