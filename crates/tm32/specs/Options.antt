@@ -37,7 +37,7 @@ underPcrop options = inEither options 3
 abbrev pub underWrp : List ℕ → ℕ → Bool
 underWrp options = inEither options 7
 
--- Whether the first option bytes protect all that the second do: read protection, and each page under PCROP or WRP.
+-- That the first option bytes protect all that the second do: read protection, and each page under PCROP or WRP.
 pub record ProtectAll (strict loose : List ℕ) : Type 0 where
   pub rdp : rdpOn loose ≡ true → rdpOn strict ≡ true
   pub pcrop : (page : ℕ) → underPcrop loose page ≡ true → underPcrop strict page ≡ true
