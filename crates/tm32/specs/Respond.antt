@@ -52,7 +52,7 @@ serve settings device payload request =
     let number : ℕ = verdictOn device request in
     cond (eqb number workDone) (replyTo (work settings device payload request)) (refuse device number)
 
--- The handshake: the session is Talking, with its link and rate as they were.
+-- The handshake makes the session Talk, on the link and at the rate that it had.
 unfoldable pub greet : Device → Answered
 greet device = answered (withSession device (inState (device .session) Talking)) helloBack
 
