@@ -7,7 +7,7 @@
 --     stored, not-stored, programmed, not-programmed     which answer a store gives, and what it leaves of the memory
 --     store-answered                         the other way round: what is known of a store by its answer
 --     in-region, region-holds                a range lies in a region just where both its ends do
---     some-page, some-none, some-grows, some-either      whether some page of a run passes a test
+--     some-page, some-none, some-one, some-grows, some-either     whether some page of a run passes a test
 --     covered, covers-known, meets-is        ranges of page numbers
 --     touched-is, touched-nothing, touched-page, page-touched     the run of the pages on which a range has a byte
 --     part-bytes, masked-bytes, kept-bytes, replicate-bytes, replaced-bytes     bytes stay bytes
@@ -31,7 +31,7 @@ use Rattle.memory.specs.declared.PageRun.{PageRun}
 use Rattle.memory.specs.declared.Programmed.the-variants.{AsGiven, Differs, Outside}
 use Rattle.memory.proofs.Parts.{same-before, same-behind}
 use Rattle.memory.proofs.Quotients.{no-earlier}
-use Rattle.memory.proofs.Runs.{either, found, grows, none-found}
+use Rattle.memory.proofs.Runs.{alone, either, found, grows, none-found}
 pub use Rattle.memory.proofs.Runs.{covered}
 
 -- ---- a part of a memory
@@ -209,6 +209,11 @@ module _ (test : ℕ → Bool) (run : PageRun) where
 pub some-grows : (test wider : ℕ → Bool) (run : PageRun) → ((page : ℕ) → test page ≡ true → wider page ≡ true) → somePage test run ≡ true → somePage wider run ≡ true
 unfolding somePage
 some-grows test wider run implies passes = grows test wider implies (run .count) (run .first) passes
+
+-- a run of one page passes where the page does
+pub some-one : (test : ℕ → Bool) (page : ℕ) → somePage test (pages page 1) ≡ test page
+unfolding somePage
+some-one test page = alone test page
 
 -- two tests tried together, page by page, find a page where one of them finds one
 pub some-either : (one other : ℕ → Bool) (run : PageRun) → somePage (λ page. one page || other page) run ≡ somePage one run || somePage other run

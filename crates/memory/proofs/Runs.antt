@@ -1,6 +1,6 @@
 -- Which page of a run passes a test, and for a range of page numbers what the ends alone say of it.
 use Prim.Native.Nat.{ℕ, zero, suc, _+_, _≤_, _<_, max, min}
-use mathlib.Core.Bool.{Bool, true, false, _&&_, _||_, or-eq-true-iff}
+use mathlib.Core.Bool.{Bool, true, false, _&&_, _||_, or-eq-true-iff, or-false}
 use mathlib.Core.Logic.{⊎-elim, Or·inl, Or·inr, Or·imp}
 use mathlib.Core.Path.{_≡_, refl, sym, ap, _∙_}
 use native.Mathlib.Nat.{eq-or-lt-of-le}
@@ -39,6 +39,11 @@ module _ (test : ℕ → Bool) where
   none-found zero first none = refl
   none-found (suc count) first none =
       rw (none first (omega arith) (omega arith)) (none-found count (first + 1) (λ page from before. none page (omega arith) (omega arith)))
+
+  -- one page decides for itself
+  pub alone : (page : ℕ) → someFrom test page 1 ≡ test page
+  unfolding someFrom
+  alone page = or-false (test page)
 
 -- a test that passes wherever another does finds a page wherever the other does
 pub grows : (test wider : ℕ → Bool) → ((page : ℕ) → test page ≡ true → wider page ≡ true)

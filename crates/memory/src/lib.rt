@@ -5,7 +5,6 @@ mod pages;
 mod ranges;
 mod stores;
 
-pub use pages::covers;
 pub use pages::meets;
 pub use pages::touched;
 pub use ranges::within;

@@ -2,7 +2,7 @@
 use crate::PageRun;
 ghost use mathlib.Core.Path.{_≡_};
 ghost use Prim.Native.Nat.{max, min};
-ghost use Rattle.memory.specs.Pages.{covers as coversIs, meets as meetsIs, touched as touchedIs};
+ghost use Rattle.memory.specs.Pages.{meets as meetsIs, touched as touchedIs};
 
 // The pages that so many bytes from a place on touch. Without a byte, or with pages of no length, there are none.
 pub fn touched(size: u32, place: u32, count: u32) -> PageRun
@@ -22,20 +22,8 @@ pub fn touched(size: u32, place: u32, count: u32) -> PageRun
     }
 }
 
-// Whether a range of page numbers, both ends in, covers a page of a chip that has so many in total.
-pub fn covers(total: u32, low: u8, high: u8, page: u32) -> bool
-    ensures { λ r. ⌜ r ≡ coversIs total low high page ⌝ }
-{
-    if total <= page {
-        return false;
-    }
-    if page < (low as u32) {
-        return false;
-    }
-    page <= (high as u32)
-}
-
-// Whether such a range covers some page of a run. No page is looked at: it is enough to compare the ends.
+// Whether a range of page numbers, both ends in, covers some page of a run, on a chip that has so many pages in total. No page is
+// looked at: it is enough to compare the ends.
 pub fn meets(total: u32, low: u8, high: u8, pages: PageRun) -> bool
     ensures { λ r. ⌜ r ≡ meetsIs total low high pages ⌝ }
 {

@@ -3,7 +3,7 @@ ghost use mathlib.Core.Path.{_≡_};
 ghost use Prim.Native.Nat.{_+_};
 ghost use Rattle.memory.specs.Ranges.{within as withinIs};
 
-// Whether so many bytes from an address on lie in a region, from the first to the last.
+// Whether so many bytes from an address on all lie in a region.
 pub fn within(start: u32, size: u32, address: u32, count: u32) -> bool
     ensures { λ r. ⌜ r ≡ withinIs start size address count ⌝ }
 {

@@ -56,16 +56,20 @@ pub(crate) fn wrp_meets(options: &[u8], pages: PageRun) -> bool
     either_meets(options, WRP, pages)
 }
 
-// Whether a page is in one of two ranges, of which the first starts in a halfword.
+// Whether a page is in one of two ranges, of which the first starts in a halfword. One page is a run of one.
 fn in_either(options: &[u8], halfword: usize, page: u32) -> bool
     requires { ⌜ length (now options) ≡ optionsLength ⌝ }
     requires { ⌜ (1 ≤ halfword) × (halfword < 9) ⌝ }
     ensures { λ r. ⌜ r ≡ inEither (now (options .entry)) halfword page ⌝ }
 {
-    if in_range(options, halfword, page) {
-        return true;
-    }
-    in_range(options, halfword + 2, page)
+    either_meets(
+        options,
+        halfword,
+        PageRun {
+            first: page,
+            count: 1,
+        },
+    )
 }
 
 // Whether some page of a run is in one of the two ranges.
@@ -78,20 +82,6 @@ fn either_meets(options: &[u8], halfword: usize, pages: PageRun) -> bool
         return true;
     }
     range_meets(options, halfword + 2, pages)
-}
-
-// Whether a page is in the range that starts in a halfword.
-fn in_range(options: &[u8], halfword: usize, page: u32) -> bool
-    requires { ⌜ length (now options) ≡ optionsLength ⌝ }
-    requires { ⌜ (1 ≤ halfword) × (halfword < 11) ⌝ }
-    ensures { λ r. ⌜ r ≡ inRange (now (options .entry)) halfword page ⌝ }
-{
-    memory::covers(
-        PAGE_COUNT,
-        low_byte(options, halfword),
-        low_byte(options, halfword + 1),
-        page,
-    )
 }
 
 // Whether some page of a run is in the range that starts in a halfword.

@@ -1,11 +1,18 @@
 -- `tm32::options::either_meets` meets its contract: the first range, and if it has no page of the run, the second. Tried page by page or range by range comes to the same.
-use mathlib.Core.Path.{sym, _∙_}
+use mathlib.Core.Bool.{Bool, true, false, _||_}
+use mathlib.Core.Path.{_≡_, sym, ap, _∙_}
 use borrow.Author.Needs.{needs}
 use Rattle.memory.proofs.Laws.{some-either}
 use Rattle.tm32.specs.Options.{inEither}
-use Rattle.tm32.proofs.Either.{first-holds, second-decides}
 use Rattle.tm32.proofs.options.either_meets.Statement.{statement}
 use Rattle.tm32.proofs.options.either_meets.Tie as tie
+
+-- two tests, one after the other: the answer where the first holds, and where it does not
+first-holds : {one : Bool} (other : Bool) → one ≡ true → true ≡ one || other
+first-holds other holds = sym (ap (λ (test : Bool). test || other) holds)
+
+second-decides : {one : Bool} (other : Bool) {answer : Bool} → one ≡ false → answer ≡ other → answer ≡ one || other
+second-decides other fails same = same ∙ sym (ap (λ (test : Bool). test || other) fails)
 
 range-meets-requires : tie.Need-range-meets-requires
 range-meets-requires c κs = search needs

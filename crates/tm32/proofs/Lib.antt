@@ -1,2 +1,0 @@
--- Lemmas that several of the crate's proofs share.
-mod Either
