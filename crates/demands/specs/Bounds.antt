@@ -7,19 +7,18 @@ use Rattle.frame.specs.Frame.{covered, dataOf, frame, reading, word, wordAt}
 use Rattle.memory.specs.Pages.{covers, somePage, someFrom, touched}
 use Rattle.memory.specs.Ranges.{within}
 use Rattle.memory.specs.Stores.{kept, masked, part, replaced, same}
-use Rattle.tm32.specs.Checks.{checks, flashPages, isLength, isPageCount, isUart, protections, readChecks, verdict, writeChecks}
-use Rattle.tm32.specs.Device.{bytesAt, sessionOf, start, withNvr, withRam, withSession}
+use Rattle.tm32.specs.Checks.{checks, flashPages, protections, readChecks, verdict, writeChecks}
+use Rattle.tm32.specs.Device.{bytesAt, sessionOf, start, withSession}
 use Rattle.tm32.specs.Fresh.{freshDevice, freshFlash, freshNvr, freshOptions, freshRam, freshSettings}
-use Rattle.tm32.specs.Map.{inFlash, inNvr, inRam, inUserNvr, inReadRegion, inGoRegion, inUserRegion}
-use Rattle.tm32.specs.Numbers.{long, longAt}
+use Rattle.tm32.specs.Map.{inReadRegion, inGoRegion, inUserRegion}
+use Rattle.tm32.specs.Numbers.{fromOneTo, long, longAt}
 use Rattle.tm32.specs.Options.{inEither, optionBytes, rdpOn}
-use Rattle.tm32.specs.Rates.{isRate}
 use Rattle.tm32.specs.Request.{exactly, readAs, requestIn, requestOf, writeIn}
 use Rattle.tm32.specs.Respond.{greet, refuse, replyTo, respond, respondIn, serve, verdictOn}
 use Rattle.tm32.specs.Work.{commandWord, compared, erased, information, readback, toldCommands, wiped, wipes, withOptions, work, written}
 use Rattle.tm32.specs.declared.Link.the-variants.{Spi}
 use Rattle.tm32.specs.declared.State.the-variants.{Talking, Gone}
-use Rattle.demands.specs.Cases.{Case, atCode, blankDevice, blankFlash, case, computed, expected, filled, fresh, fullDevice, fullFlash, onBench, pcrop5, pcrop5wrp7, prepared, put, rdp, wrp7}
+use Rattle.demands.specs.Cases.{Case, atCode, blankBeside, blankDevice, blankFlash, case, computed, expected, filled, fresh, fullDevice, fullFlash, onBench, pcrop5, pcrop5wrp7, prepared, put, rdp, wrp7}
 use Rattle.demands.specs.Wire.{askErase, askGet, askGo, askMemoryCrc, askPps, askRead, askReadOptions, askWrite, askWriteOptions, done, first, halfwords, handshake, heartBeat, hex, little, message, noPages, off, options, shaken}
 
 -- Commands and regions: Get and the option bytes; the last rate; the CRC of the last two bytes of a full flash (0x16AB, worked out apart), and another; the last byte of
@@ -34,8 +33,8 @@ otherCommands =
     ∷ case (withSession freshDevice (start Spi)) (handshake ∷ []) (askPps 0x11) (hex 6 0x2DF500006A06) (withSession (blankDevice off) (sessionOf Talking Spi 0x0A))
     ∷ filled [] (askMemoryCrc 0x08007FFE 2 0x16AB) done (fullDevice off)
     ∷ filled [] (askMemoryCrc 0x08007FFE 2 0x16AC) (hex 6 0x2DF400005A31) (fullDevice off)
-    ∷ fresh [] (askWrite 1 0x20003FFF (0xA5 ∷ [])) done (withRam (blankDevice off) (replicate 9215 0 ++ 0xA5 ∷ []))
-    ∷ fresh [] (askWrite 1 0x1FFF1000 (0xA5 ∷ [])) done (withNvr (blankDevice off) (replicate 2048 0 ++ off ++ replicate 2026 0 ++ 0xA5 ∷ replicate 2047 0))
+    ∷ fresh [] (askWrite 1 0x20003FFF (0xA5 ∷ [])) done (blankBeside (replicate 9215 0 ++ 0xA5 ∷ []) (replicate 2048 0 ++ off ++ replicate 4074 0))
+    ∷ fresh [] (askWrite 1 0x1FFF1000 (0xA5 ∷ [])) done (blankBeside (replicate 9216 0) (replicate 2048 0 ++ off ++ replicate 2026 0 ++ 0xA5 ∷ replicate 2047 0))
     ∷ fresh [] (askWrite 1 0x1FFF0FFF (0xA5 ∷ [])) (hex 6 0x2DF10000AADA) (blankDevice off)
     ∷ fresh [] (askGo 0x08007FF8) done (onBench (Gone 0x08007FF8) blankFlash off)
     ∷ fresh [] (askGo 0x08007FF9) (hex 6 0x2DF10000AADA) (blankDevice off)
@@ -79,5 +78,5 @@ boundCases = otherCommands ++ moreBounds
 
 -- All of them hold.
 all-hold : computed boundCases ≡ expected boundCases
-unfolding computed expected prepared hex little message halfwords options boundCases otherCommands moreBounds respond respondIn greet serve replyTo verdictOn refuse frame covered word crc byteDone bitsDone bitDone shifted polynomial reading wordAt dataOf requestIn readAs requestOf writeIn exactly longAt checks verdict isUart isRate isLength isPageCount protections readChecks writeChecks flashPages somePage someFrom covers touched within inFlash inRam inNvr inUserNvr inReadRegion inUserRegion inGoRegion bytesAt part replaced masked kept same rdpOn inEither optionBytes erased wipes wiped withOptions work written readback compared information long commandWord toldCommands freshDevice freshFlash freshRam freshNvr freshOptions freshSettings
+unfolding computed expected prepared hex little message halfwords options boundCases otherCommands moreBounds respond respondIn greet serve replyTo verdictOn refuse frame covered word crc byteDone bitsDone bitDone shifted polynomial reading wordAt dataOf requestIn readAs requestOf writeIn exactly longAt checks verdict protections readChecks writeChecks flashPages somePage someFrom covers touched within inReadRegion inUserRegion inGoRegion bytesAt part replaced masked kept same rdpOn inEither optionBytes erased wipes wiped withOptions work written readback compared information long commandWord toldCommands freshDevice freshFlash freshRam freshNvr freshOptions freshSettings fromOneTo
 all-hold = refl

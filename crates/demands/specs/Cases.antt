@@ -3,7 +3,7 @@
 use Prim.Native.Nat.{ℕ}
 use mathlib.Core.List.{List, [], _∷_, _++_}
 use lib.ListN.{replicate}
-use Rattle.tm32.specs.Device.{Device, deviceOf, sessionOf, withSession}
+use Rattle.tm32.specs.Device.{Device, deviceOf, memoryOf, sessionOf, withSession}
 use Rattle.tm32.specs.Fresh.{freshDevice, freshSettings}
 use Rattle.tm32.specs.Respond.{Answered, answered, respond}
 use Rattle.tm32.specs.declared.Link.the-variants.{Uart}
@@ -39,7 +39,11 @@ expected (one ∷ rest) = answered (one .after) (one .reply) ∷ expected rest
 
 -- A device on UART at rate code 0x0A, with RAM all nought, in a state, with a flash, and with option bytes in an NVR that is nought otherwise.
 abbrev pub onBench : State → List ℕ → List ℕ → Device
-onBench state flash options = deviceOf (sessionOf state Uart 0x0A) flash (replicate 9216 0) (replicate 2048 0 ++ options ++ replicate 4074 0)
+onBench state flash options = deviceOf (sessionOf state Uart 0x0A) (memoryOf flash (replicate 9216 0) (replicate 2048 0 ++ options ++ replicate 4074 0))
+
+-- A device like that which Talks, with a blank flash, and with some RAM and some NVR.
+abbrev pub blankBeside : List ℕ → List ℕ → Device
+blankBeside ram nvr = deviceOf (sessionOf Talking Uart 0x0A) (memoryOf (replicate 32768 0xFF) ram nvr)
 
 -- A blank flash, as on the fresh device.
 abbrev pub blankFlash : List ℕ

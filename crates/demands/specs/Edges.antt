@@ -9,11 +9,11 @@ use Rattle.frame.specs.Frame.{covered, dataOf, frame, reading, word, wordAt}
 use Rattle.memory.specs.Pages.{covers, somePage, someFrom, touched}
 use Rattle.memory.specs.Ranges.{within}
 use Rattle.memory.specs.Stores.{kept, masked, part, replaced, same}
-use Rattle.tm32.specs.Checks.{checks, flashPages, isLength, isPageCount, protections, readChecks, verdict, writeChecks}
+use Rattle.tm32.specs.Checks.{checks, flashPages, protections, readChecks, verdict, writeChecks}
 use Rattle.tm32.specs.Device.{bytesAt}
 use Rattle.tm32.specs.Fresh.{freshDevice, freshFlash, freshNvr, freshOptions, freshRam, freshSettings}
-use Rattle.tm32.specs.Map.{inFlash, inNvr, inRam, inUserNvr, inReadRegion, inUserRegion}
-use Rattle.tm32.specs.Numbers.{longAt}
+use Rattle.tm32.specs.Map.{inReadRegion, inUserRegion}
+use Rattle.tm32.specs.Numbers.{fromOneTo, longAt}
 use Rattle.tm32.specs.Options.{inEither, optionBytes, rdpOn}
 use Rattle.tm32.specs.Request.{exactly, readAs, requestIn, requestOf, writeIn}
 use Rattle.tm32.specs.Respond.{greet, refuse, replyTo, respond, respondIn, serve, verdictOn}
@@ -74,5 +74,5 @@ workedCases = asGiven ++ overFullFlash ++ almostRight
 
 -- All of them hold.
 all-hold : computed workedCases ≡ expected workedCases
-unfolding computed expected prepared hex little message halfwords options workedCases asGiven overFullFlash almostRight respond respondIn greet serve replyTo verdictOn refuse frame covered word crc byteDone bitsDone bitDone shifted polynomial reading wordAt dataOf requestIn readAs requestOf writeIn exactly longAt checks verdict isLength isPageCount protections readChecks writeChecks flashPages somePage someFrom covers touched within inFlash inRam inNvr inUserNvr inReadRegion inUserRegion bytesAt part replaced masked kept same rdpOn inEither optionBytes erased wipes wiped withOptions work written readback freshDevice freshFlash freshRam freshNvr freshOptions freshSettings
+unfolding computed expected prepared hex little message halfwords options workedCases asGiven overFullFlash almostRight respond respondIn greet serve replyTo verdictOn refuse frame covered word crc byteDone bitsDone bitDone shifted polynomial reading wordAt dataOf requestIn readAs requestOf writeIn exactly longAt checks verdict protections readChecks writeChecks flashPages somePage someFrom covers touched within inReadRegion inUserRegion bytesAt part replaced masked kept same rdpOn inEither optionBytes erased wipes wiped withOptions work written readback freshDevice freshFlash freshRam freshNvr freshOptions freshSettings fromOneTo
 all-hold = refl

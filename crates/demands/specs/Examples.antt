@@ -11,14 +11,14 @@ use Rattle.memory.specs.Pages.{covers}
 use Rattle.memory.specs.Ranges.{within}
 use Rattle.memory.specs.Stores.{replaced, same}
 use Rattle.tm32.specs.After.{after, callChecks, lay, noReply, replied, tell}
-use Rattle.tm32.specs.Checks.{checks, isLength, protections, verdict}
-use Rattle.tm32.specs.Device.{Device, deviceOf, sessionOf, withSession}
+use Rattle.tm32.specs.Checks.{checks, protections, verdict}
+use Rattle.tm32.specs.Device.{Device, deviceOf, memoryOf, sessionOf, withSession}
 use Rattle.tm32.specs.Fresh.{freshDevice, freshFlash, freshNvr, freshOptions, freshRam, freshSettings}
-use Rattle.tm32.specs.Map.{flashLength, flashStart, inNvr, nvrLength, nvrStart, pageCount, ramLength, ramStart, userNvrLength, userNvrStart}
+use Rattle.tm32.specs.Map.{flashLength, flashStart, nvrLength, nvrStart, pageCount, ramLength, ramStart, userNvrLength, userNvrStart}
 use Rattle.tm32.specs.OptionMessages.{isTalking, optionMessage, readsOptions, touchesOptions}
 use Rattle.tm32.specs.Options.{inEither, rdpOn, underPcrop, underWrp}
-use Rattle.tm32.specs.Rates.{bitsPerSecond, isRate, rates}
-use Rattle.tm32.specs.Numbers.{long, longAt}
+use Rattle.tm32.specs.Rates.{bitsPerSecond, rates}
+use Rattle.tm32.specs.Numbers.{fromOneTo, long, longAt}
 use Rattle.tm32.specs.Request.{exactly, readAs, requestIn, requestOf}
 use Rattle.tm32.specs.Respond.{greet, refuse, replyTo, respond, respondIn, serve, verdictOn}
 use Rattle.tm32.specs.Run.{restarted, run, sent}
@@ -64,7 +64,7 @@ only-0xAA-is-off = refl
 
 -- Codes 0x00, 0x01, 0x0A, 0x10 and 0x11.
 rates-at-the-ends : map bitsPerSecond (0x00 ∷ 0x01 ∷ 0x0A ∷ 0x10 ∷ 0x11 ∷ []) ≡ 0 ∷ 2400 ∷ 115200 ∷ 1382400 ∷ 0 ∷ []
-unfolding bitsPerSecond isRate rates
+unfolding bitsPerSecond rates fromOneTo
 rates-at-the-ends = refl
 
 -- The last address of each part of the memory.
@@ -90,7 +90,7 @@ links-told = refl
 
 -- All five reasons to refuse at once, then one fewer each time: the numbers come in order, and 0 where there is none.
 lent : List ℕ → List ℕ → List ℕ → ℕ → Device
-lent flash ram nvr rate = deviceOf (sessionOf Talking Uart rate) flash ram nvr
+lent flash ram nvr rate = deviceOf (sessionOf Talking Uart rate) (memoryOf flash ram nvr)
 
 refusals-in-order :
     verdict 0 (callChecks (lent [] [] [] 0) 1029)
@@ -101,7 +101,7 @@ refusals-in-order :
     ∷ verdict 0 (callChecks (lent freshFlash freshRam freshNvr 0x10) 1030)
     ∷ []
     ≡ 1 ∷ 2 ∷ 3 ∷ 4 ∷ 5 ∷ 0 ∷ []
-unfolding lent verdict callChecks isRate freshFlash freshRam freshNvr freshOptions replaced word
+unfolding lent verdict callChecks freshFlash freshRam freshNvr freshOptions replaced word fromOneTo
 refusals-in-order = refl
 
 -- What reads or writes the option bytes of a device that Talks: 0x31, 0x32, and a Read that touches them. A Read beside them does not, nor one that is too long to be served.
@@ -109,26 +109,26 @@ touching-the-options :
     map (λ (one : List ℕ). optionMessage (withSession freshDevice (sessionOf Talking Uart 0x0A)) one 1030)
     (askWriteOptions off ∷ askReadOptions ∷ askRead 0x1FFF07FF 1 ∷ askRead 0x1FFF07FF 2 ∷ askRead 0x1FFF0815 1 ∷ askRead 0x1FFF0816 1 ∷ askRead 0x1FFF0800 1025 ∷ heartBeat ∷ [])
     ≡ true ∷ true ∷ false ∷ true ∷ true ∷ false ∷ false ∷ false ∷ []
-unfolding hex little message halfwords options freshDevice freshFlash freshRam freshNvr freshOptions replaced callChecks verdict isRate optionMessage isTalking touchesOptions readsOptions isLength inNvr within requestIn readAs requestOf exactly longAt reading wordAt dataOf frame covered word crc byteDone bitsDone bitDone shifted polynomial
+unfolding hex little message halfwords options freshDevice freshFlash freshRam freshNvr freshOptions replaced callChecks verdict optionMessage isTalking touchesOptions readsOptions within requestIn readAs requestOf exactly longAt reading wordAt dataOf frame covered word crc byteDone bitsDone bitDone shifted polynomial fromOneTo
 touching-the-options = refl
 
 -- A device that Waits reads none of them, and nobody does with too little room for the reply.
 nothing-while-waiting : map (λ (one : List ℕ). optionMessage freshDevice one 1030) (askWriteOptions off ∷ askReadOptions ∷ askRead 0x1FFF0800 1 ∷ []) ≡ false ∷ false ∷ false ∷ []
-unfolding freshDevice freshFlash freshRam freshNvr freshOptions replaced word callChecks verdict isRate optionMessage isTalking
+unfolding freshDevice freshFlash freshRam freshNvr freshOptions replaced word callChecks verdict optionMessage isTalking fromOneTo
 nothing-while-waiting = refl
 
 nothing-without-room : optionMessage (withSession freshDevice (sessionOf Talking Uart 0x0A)) askReadOptions 1029 ≡ false
-unfolding freshDevice freshFlash freshRam freshNvr freshOptions replaced word callChecks verdict isRate optionMessage
+unfolding freshDevice freshFlash freshRam freshNvr freshOptions replaced word callChecks verdict optionMessage fromOneTo
 nothing-without-room = refl
 
 -- A handshake, a heart beat with too little room, one with enough, and one more after a restart on SPI.
 a-short-run :
     run freshSettings freshDevice (sent handshake 1030 ∷ sent heartBeat 1029 ∷ sent heartBeat 1030 ∷ restarted Spi ∷ sent heartBeat 1030 ∷ []) .told
     ≡ replied shaken ∷ noReply 4 ∷ replied done ∷ replied (hex 6 0x2D8000009235) ∷ []
-unfolding hex run tell callChecks verdict isRate respond respondIn greet serve replyTo refuse verdictOn checks protections work requestIn readAs requestOf exactly reading wordAt dataOf frame covered word crc byteDone bitsDone bitDone shifted polynomial same freshDevice freshFlash freshRam freshNvr freshOptions replaced
+unfolding hex run tell callChecks verdict respond respondIn greet serve replyTo refuse verdictOn checks protections work requestIn readAs requestOf exactly reading wordAt dataOf frame covered word crc byteDone bitsDone bitDone shifted polynomial same freshDevice freshFlash freshRam freshNvr freshOptions replaced fromOneTo
 a-short-run = refl
 
 -- The reply lies over the start of the buffer, and the rest of it is as it came.
 rest-of-the-buffer : after freshSettings freshDevice handshake (replicate 1040 0x11) .buffer ≡ 0x79 ∷ replicate 1039 0x11
-unfolding hex after lay laid tell callChecks verdict isRate respond respondIn greet same freshDevice freshFlash freshRam freshNvr freshOptions replaced word
+unfolding hex after lay laid tell callChecks verdict respond respondIn greet same freshDevice freshFlash freshRam freshNvr freshOptions replaced word fromOneTo
 rest-of-the-buffer = refl

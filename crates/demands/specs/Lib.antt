@@ -5,3 +5,10 @@ pub mod Edges
 pub mod Bounds
 pub mod Examples
 pub mod Order
+pub mod FirstFailing
+pub mod Accepted
+pub mod Refused
+pub mod Lengths
+pub mod Stays
+pub mod Replies
+pub mod Bytes

@@ -1,10 +1,10 @@
 -- Document 01, "A message and its reply": of every request the checks stand in 01's order, whatever the link and the options.
 use Prim.Native.Nat.{ℕ}
 use mathlib.Core.Bool.{Bool, true, false, cond}
-use mathlib.Core.List.{List, [], _∷_, _++_, map}
+use mathlib.Core.List.{List, [], _∷_, map}
 use mathlib.Core.Path.{_≡_, refl}
 use lib.Dec.{eqb}
-use Rattle.tm32.specs.Checks.{Check, checks, protections, readChecks, writeChecks}
+use Rattle.tm32.specs.Checks.{Check, checks, checksOf, protections, readChecks, writeChecks}
 use Rattle.tm32.specs.declared.Link.{Link}
 use Rattle.tm32.specs.declared.Request.{Request}
 use Rattle.tm32.specs.declared.Request.the-variants.{Pps, Get, Read, Write, MemoryCrc, Erase, Go, WriteOptions, ReadOptions, HeartBeat, Misshapen}
@@ -23,7 +23,7 @@ follows (number ∷ numbers) (next ∷ list) = cond (eqb number next) (follows n
 unfoldable pub numbersOf : List Check → List ℕ
 numbersOf = map (λ (one : Check). one .number)
 
-pub in-order : (link : Link) (options : List ℕ) (request : Request) → follows (numbersOf (checks link request ++ protections options request)) order ≡ true
+pub in-order : (link : Link) (options : List ℕ) (request : Request) → follows (numbersOf (checksOf link options request)) order ≡ true
 unfolding order follows numbersOf checks protections readChecks writeChecks
 in-order link options (Pps code) = refl
 in-order link options Get = refl

@@ -7,30 +7,30 @@ use lib.ListN.{take, drop}
 use lib.Seq.{getD-drop}
 use Rattle.frame.specs.Frame.{AllBytes, word}
 
-none : AllBytes []
-none i = lit< tt
+pub none-bytes : AllBytes []
+none-bytes i = lit< tt
 
-pub more : (byte : ℕ) (bytes : List ℕ) → byte < 256 → AllBytes bytes → AllBytes (byte ∷ bytes)
-more byte bytes small all zero = small
-more byte bytes small all (suc i) = all i
+pub more-bytes : (byte : ℕ) (bytes : List ℕ) → byte < 256 → AllBytes bytes → AllBytes (byte ∷ bytes)
+more-bytes byte bytes small all zero = small
+more-bytes byte bytes small all (suc i) = all i
 
-pub both : (bytes others : List ℕ) → AllBytes bytes → AllBytes others → AllBytes (bytes ++ others)
-both [] others all all′ = all′
-both (byte ∷ bytes) others all all′ =
-    more byte (bytes ++ others) (all 0) (both bytes others (λ i. all (suc i)) all′)
+pub joined-bytes : (bytes others : List ℕ) → AllBytes bytes → AllBytes others → AllBytes (bytes ++ others)
+joined-bytes [] others all all′ = all′
+joined-bytes (byte ∷ bytes) others all all′ =
+    more-bytes byte (bytes ++ others) (all 0) (joined-bytes bytes others (λ i. all (suc i)) all′)
 
-pub first : (count : ℕ) (bytes : List ℕ) → AllBytes bytes → AllBytes (take count bytes)
-first zero bytes all = none
-first (suc count) [] all = none
-first (suc count) (byte ∷ bytes) all =
-    more byte (take count bytes) (all 0) (first count bytes (λ i. all (suc i)))
+pub first-bytes : (count : ℕ) (bytes : List ℕ) → AllBytes bytes → AllBytes (take count bytes)
+first-bytes zero bytes all = none-bytes
+first-bytes (suc count) [] all = none-bytes
+first-bytes (suc count) (byte ∷ bytes) all =
+    more-bytes byte (take count bytes) (all 0) (first-bytes count bytes (λ i. all (suc i)))
 
-pub last : (count : ℕ) (bytes : List ℕ) → AllBytes bytes → AllBytes (drop count bytes)
-last count bytes all i = rw getD-drop (all _)
+pub last-bytes : (count : ℕ) (bytes : List ℕ) → AllBytes bytes → AllBytes (drop count bytes)
+last-bytes count bytes all i = rw getD-drop (all _)
 
 pub word-bytes : (number : ℕ) → AllBytes (word number)
 unfolding word
 word-bytes number =
     let low : number % 256 < 256 = omega arith in
     let high : number / 256 % 256 < 256 = omega arith in
-    more (number % 256) (number / 256 % 256 ∷ []) low (more (number / 256 % 256) [] high none)
+    more-bytes (number % 256) (number / 256 % 256 ∷ []) low (more-bytes (number / 256 % 256) [] high none-bytes)

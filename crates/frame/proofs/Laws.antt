@@ -7,6 +7,7 @@
 --     read-was-written, read-once            a sound frame is the frame of its second byte and its data, and the only one
 --     length-message, length-data, short-data, length-frame     lengths
 --     frame-bytes, data-bytes                frames and their data are made of bytes
+--     none-bytes, more-bytes, joined-bytes, last-bytes, word-bytes     and so are no bytes, one more, two lists joined, the end of one, and a number of 16 bits
 -- Assumes nothing.
 use Prim.Native.Nat.{ℕ, _+_, _-_, _≤_, _<_}
 use mathlib.Core.List.{List, [], _∷_, _++_}
@@ -21,7 +22,8 @@ use Rattle.frame.specs.Frame.{AllBytes, headByte, overhead, longest, wor
 use Rattle.frame.specs.declared.Reading.the-variants.{Sound}
 use Rattle.frame.specs.declared.Written.the-variants.{Frame, TooLong, NoRoom}
 use Rattle.frame.proofs.Answered
-use Rattle.frame.proofs.Bytes
+use Rattle.frame.proofs.Bytes.{first-bytes}
+pub use Rattle.frame.proofs.Bytes.{joined-bytes, last-bytes, more-bytes, none-bytes, word-bytes}
 use Rattle.frame.proofs.Passed
 use Rattle.frame.proofs.Places
 pub use Rattle.frame.proofs.Places.{length-frame}
@@ -152,13 +154,13 @@ pub frame-bytes : (start second : ℕ) (payload : List ℕ) → second < 256 →
 unfolding frame covered
 frame-bytes start second payload small all =
     let sized : AllBytes (word (length payload) ++ payload) =
-    Bytes.both (word (length payload)) payload (Bytes.word-bytes (length payload)) all
+    joined-bytes (word (length payload)) payload (word-bytes (length payload)) all
     in
     let checked : AllBytes (covered second payload) =
-    Bytes.more headByte (second ∷ word (length payload) ++ payload) (lit< tt) (Bytes.more second (word (length payload) ++ payload) small sized)
+    more-bytes headByte (second ∷ word (length payload) ++ payload) (lit< tt) (more-bytes second (word (length payload) ++ payload) small sized)
     in
-    Bytes.both (covered second payload) (word (crc start (covered second payload))) checked (Bytes.word-bytes (crc start (covered second payload)))
+    joined-bytes (covered second payload) (word (crc start (covered second payload))) checked (word-bytes (crc start (covered second payload)))
 
 pub data-bytes : (bytes : List ℕ) → AllBytes bytes → AllBytes (dataOf bytes)
 unfolding dataOf
-data-bytes bytes all = Bytes.first (length bytes - overhead) (drop 4 bytes) (Bytes.last 4 bytes all)
+data-bytes bytes all = first-bytes (length bytes - overhead) (drop 4 bytes) (last-bytes 4 bytes all)

@@ -2,10 +2,11 @@
 use Prim.Native.Nat.{ℕ, _+_, _-_}
 use mathlib.Core.Bool.{Bool, true, false, cond, not, _&&_}
 use mathlib.Core.List.{List, [], _∷_, _++_}
-use lib.Dec.{eqb, leb, ltb}
+use lib.Dec.{eqb, ltb}
 use Rattle.memory.specs.declared.PageRun.{PageRun}
 use Rattle.memory.specs.Pages.{pages, somePage, touched}
 use Rattle.tm32.specs.Map.{flashStart, inFlash, pageCount, pageSize, inReadRegion, inGoRegion, inUserRegion}
+use Rattle.tm32.specs.Numbers.{fromOneTo}
 use Rattle.tm32.specs.Options.{rdpOn, underPcrop, underWrp}
 use Rattle.tm32.specs.Rates.{isRate}
 use Rattle.tm32.specs.Results.{wrongShape, wrongLink, wrongRate, wrongLength, wrongPageCount, wrongAddress, readProtected, pcropProtected, writeProtected}
@@ -28,8 +29,13 @@ unfoldable pub verdict : ℕ → List Check → ℕ
 verdict passed [] = passed
 verdict passed (first ∷ rest) = cond (first .fails) (first .number) (verdict passed rest)
 
+-- Whether none of some checks fails.
+unfoldable pub noneFails : List Check → Bool
+noneFails [] = true
+noneFails (first ∷ rest) = not (first .fails) && noneFails rest
+
 -- Only a UART has a rate to set.
-unfoldable pub isUart : Link → Bool
+abbrev pub isUart : Link → Bool
 isUart Uart = true
 isUart Spi = false
 isUart I2c = false
@@ -39,12 +45,12 @@ abbrev pub mostBytes : ℕ
 mostBytes = 1024
 
 -- They take 1 byte to so many.
-unfoldable pub isLength : ℕ → Bool
-isLength count = leb 1 count && leb count mostBytes
+abbrev pub isLength : ℕ → Bool
+isLength count = fromOneTo mostBytes count
 
 -- Erase takes 1 page to all of them.
-unfoldable pub isPageCount : ℕ → Bool
-isPageCount count = leb 1 count && leb count pageCount
+abbrev pub isPageCount : ℕ → Bool
+isPageCount count = fromOneTo pageCount count
 
 -- What is checked before protection: shape, link, rate, length, page count, address, of each command those that it has.
 unfoldable pub checks : Link → Request → List Check
@@ -85,3 +91,7 @@ protections options WriteOptions = []
 protections options ReadOptions = []
 protections options HeartBeat = []
 protections options Misshapen = []
+
+-- All the checks of a request, in order.
+abbrev pub checksOf : Link → List ℕ → Request → List Check
+checksOf link options request = checks link request ++ protections options request

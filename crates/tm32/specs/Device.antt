@@ -36,33 +36,45 @@ start link = sessionOf Waiting link startRate
 abbrev pub restart : Session → Link → Session
 restart session link = start link
 
--- The session, and the three lent parts as lists of bytes.
-pub record Device : Type 0 where
-  pub session : Session
+-- The memory that is lent: flash, RAM and NVR as lists of bytes.
+pub record Memory : Type 0 where
   pub flash : List ℕ
   pub ram : List ℕ
   pub nvr : List ℕ
 
--- The four put together.
-abbrev pub deviceOf : Session → List ℕ → List ℕ → List ℕ → Device
-deviceOf session flash ram nvr = record { session = session; flash = flash; ram = ram; nvr = nvr }
+-- The three put together.
+abbrev pub memoryOf : List ℕ → List ℕ → List ℕ → Memory
+memoryOf flash ram nvr = record { flash = flash; ram = ram; nvr = nvr }
 
--- A device with one of the four changed.
+-- A memory with one of the three changed.
+abbrev pub withFlash : Memory → List ℕ → Memory
+withFlash memory flash = memoryOf flash (memory .ram) (memory .nvr)
+
+abbrev pub withRam : Memory → List ℕ → Memory
+withRam memory ram = memoryOf (memory .flash) ram (memory .nvr)
+
+abbrev pub withNvr : Memory → List ℕ → Memory
+withNvr memory nvr = memoryOf (memory .flash) (memory .ram) nvr
+
+-- The session and the memory.
+pub record Device : Type 0 where
+  pub session : Session
+  pub memory : Memory
+
+-- The two put together.
+abbrev pub deviceOf : Session → Memory → Device
+deviceOf session memory = record { session = session; memory = memory }
+
+-- A device with one of the two changed.
 abbrev pub withSession : Device → Session → Device
-withSession device session = deviceOf session (device .flash) (device .ram) (device .nvr)
+withSession device session = deviceOf session (device .memory)
 
-abbrev pub withFlash : Device → List ℕ → Device
-withFlash device flash = deviceOf (device .session) flash (device .ram) (device .nvr)
-
-abbrev pub withRam : Device → List ℕ → Device
-withRam device ram = deviceOf (device .session) (device .flash) ram (device .nvr)
-
-abbrev pub withNvr : Device → List ℕ → Device
-withNvr device nvr = deviceOf (device .session) (device .flash) (device .ram) nvr
+abbrev pub withMemory : Device → Memory → Device
+withMemory device memory = deviceOf (device .session) memory
 
 -- The bytes that a range names, in the region that holds it. What is in neither flash nor RAM is in NVR: the checks let no other range through.
-unfoldable pub bytesAt : Device → ℕ → ℕ → List ℕ
-bytesAt device address count =
-    cond (inFlash address count) (part (device .flash) (address - flashStart) count)
-    (cond (inRam address count) (part (device .ram) (address - ramStart) count)
-    (part (device .nvr) (address - nvrStart) count))
+unfoldable pub bytesAt : Memory → ℕ → ℕ → List ℕ
+bytesAt memory address count =
+    cond (inFlash address count) (part (memory .flash) (address - flashStart) count)
+    (cond (inRam address count) (part (memory .ram) (address - ramStart) count)
+    (part (memory .nvr) (address - nvrStart) count))

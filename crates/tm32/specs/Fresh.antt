@@ -4,7 +4,7 @@ use mathlib.Core.List.{List, [], _∷_, _++_}
 use lib.ListN.{replicate}
 use Rattle.frame.specs.Frame.{word}
 use Rattle.memory.specs.Stores.{replaced}
-use Rattle.tm32.specs.Device.{Device, deviceOf, start}
+use Rattle.tm32.specs.Device.{Device, deviceOf, memoryOf, start}
 use Rattle.tm32.specs.Map.{blank, flashLength, nvrLength, nvrStart, optionsStart, ramLength}
 use Rattle.tm32.specs.Work.{uart1, uart2, uart3, spi1, spi2, i2c1, i2c2}
 use Rattle.tm32.specs.declared.Link.the-variants.{Uart}
@@ -30,7 +30,7 @@ freshNvr = replaced (replicate nvrLength 0) (optionsStart - nvrStart) freshOptio
 
 -- Started on UART.
 unfoldable pub freshDevice : Device
-freshDevice = deviceOf (start Uart) freshFlash freshRam freshNvr
+freshDevice = deviceOf (start Uart) (memoryOf freshFlash freshRam freshNvr)
 
 -- Version bytes 00 01, all seven links, and nought else.
 unfoldable pub freshSettings : Settings

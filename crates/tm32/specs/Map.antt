@@ -50,16 +50,16 @@ abbrev pub blank : ℕ
 blank = 0xFF
 
 -- Whether so many bytes from an address on all lie in the one region.
-unfoldable pub inFlash : ℕ → ℕ → Bool
+abbrev pub inFlash : ℕ → ℕ → Bool
 inFlash address count = within flashStart flashLength address count
 
-unfoldable pub inRam : ℕ → ℕ → Bool
+abbrev pub inRam : ℕ → ℕ → Bool
 inRam address count = within ramStart ramLength address count
 
-unfoldable pub inNvr : ℕ → ℕ → Bool
+abbrev pub inNvr : ℕ → ℕ → Bool
 inNvr address count = within nvrStart nvrLength address count
 
-unfoldable pub inUserNvr : ℕ → ℕ → Bool
+abbrev pub inUserNvr : ℕ → ℕ → Bool
 inUserNvr address count = within userNvrStart userNvrLength address count
 
 -- The ranges that Read may name. Whether they are protected is asked later.

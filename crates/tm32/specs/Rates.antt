@@ -1,9 +1,9 @@
 -- Document 01, "The ten commands": the sixteen rates of PPS.
 use Prim.Native.Nat.{ℕ, _-_}
-use mathlib.Core.Bool.{Bool, cond, _&&_}
+use mathlib.Core.Bool.{Bool, cond}
 use mathlib.Core.List.{List, [], _∷_}
-use lib.Dec.{leb}
 use lib.ListN.{getD}
+use Rattle.tm32.specs.Numbers.{fromOneTo}
 
 -- The rates in bits per second, in order of code. The first code is 0x01.
 unfoldable pub rates : List ℕ
@@ -12,8 +12,8 @@ rates =
     ∷ 76800 ∷ 115200 ∷ 128000 ∷ 230400 ∷ 256000 ∷ 460800 ∷ 921600 ∷ 1382400 ∷ []
 
 -- Whether a code names a rate: 0x01 to 0x10.
-unfoldable pub isRate : ℕ → Bool
-isRate code = leb 0x01 code && leb code 0x10
+abbrev pub isRate : ℕ → Bool
+isRate code = fromOneTo 0x10 code
 
 -- The rate of a code in bits per second. A code that names none gives 0.
 unfoldable pub bitsPerSecond : ℕ → ℕ

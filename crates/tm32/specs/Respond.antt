@@ -1,12 +1,12 @@
 -- Document 01, "A message and its reply": what a device does with a message, and what it replies, where its memory has the lengths of the map. `After` sees to that, and to the reply buffer.
 use Prim.Native.Nat.{ℕ}
 use mathlib.Core.Bool.{cond}
-use mathlib.Core.List.{List, [], _∷_, _++_}
+use mathlib.Core.List.{List, [], _∷_}
 use lib.Dec.{eqb}
 use lib.ListN.{length}
 use Rattle.frame.specs.Frame.{dataOf, frame}
 use Rattle.memory.specs.Stores.{same}
-use Rattle.tm32.specs.Checks.{checks, protections, verdict}
+use Rattle.tm32.specs.Checks.{checksOf, verdict}
 use Rattle.tm32.specs.Device.{Device, crcStart, inState, withSession}
 use Rattle.tm32.specs.Options.{optionBytes}
 use Rattle.tm32.specs.Request.{requestIn}
@@ -39,8 +39,7 @@ refuse device number = answered device (frame crcStart number [])
 
 -- What the checks and protection say of a request.
 unfoldable pub verdictOn : Device → Request → ℕ
-verdictOn device request =
-    verdict workDone (checks (device .session .link) request ++ protections (optionBytes (device .nvr)) request)
+verdictOn device request = verdict workDone (checksOf (device .session .link) (optionBytes (device .memory .nvr)) request)
 
 -- The reply to work.
 unfoldable pub replyTo : Worked → Answered

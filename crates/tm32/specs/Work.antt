@@ -6,7 +6,7 @@ use lib.Dec.{eqb}
 use lib.ListN.{length, drop, replicate}
 use Rattle.frame.specs.Crc.{crc}
 use Rattle.memory.specs.Stores.{kept, replaced, same}
-use Rattle.tm32.specs.Device.{Device, atRate, bytesAt, crcStart, deviceOf, inState, withFlash, withNvr, withRam, withSession}
+use Rattle.tm32.specs.Device.{Device, Memory, atRate, bytesAt, crcStart, inState, memoryOf, withFlash, withMemory, withNvr, withRam, withSession}
 use Rattle.tm32.specs.Map.{blank, flashStart, inFlash, inRam, nvrStart, optionsStart, pageCount, pageSize, ramStart}
 use Rattle.tm32.specs.Numbers.{long}
 use Rattle.tm32.specs.Options.{optionBytes, rdpOn}
@@ -62,21 +62,21 @@ information settings =
     settings .version ++ settings .serial ++ settings .«package» ∷ settings .model ∷ long commandWord ++ long (settings .links)
 
 -- Write: a flash byte can only lose bits; RAM and NVR take the bytes as they are.
-unfoldable pub written : Device → ℕ → List ℕ → Device
-written device address bytes =
+unfoldable pub written : Memory → ℕ → List ℕ → Memory
+written memory address bytes =
     cond (inFlash address (length bytes))
-    (withFlash device (replaced (device .flash) (address - flashStart) (kept (device .flash) (address - flashStart) bytes)))
-    (cond (inRam address (length bytes)) (withRam device (replaced (device .ram) (address - ramStart) bytes))
-    (withNvr device (replaced (device .nvr) (address - nvrStart) bytes)))
+    (withFlash memory (replaced (memory .flash) (address - flashStart) (kept (memory .flash) (address - flashStart) bytes)))
+    (cond (inRam address (length bytes)) (withRam memory (replaced (memory .ram) (address - ramStart) bytes))
+    (withNvr memory (replaced (memory .nvr) (address - nvrStart) bytes)))
 
 -- The result of a write: with flag 1, whether each byte is now what was sent. What was written stays either way.
-unfoldable pub readback : ℕ → ℕ → List ℕ → Device → ℕ
+unfoldable pub readback : ℕ → ℕ → List ℕ → Memory → ℕ
 readback flag address bytes after =
     cond (eqb flag 1 && not (same (bytesAt after address (length bytes)) bytes)) readbackDiffers workDone
 
 -- Memory CRC: the frame's own CRC over the range, against the one that was sent.
-unfoldable pub compared : Device → ℕ → ℕ → ℕ → ℕ
-compared device address count wanted = cond (eqb (crc crcStart (bytesAt device address count)) wanted) workDone wrongCrc
+unfoldable pub compared : Memory → ℕ → ℕ → ℕ → ℕ
+compared memory address count wanted = cond (eqb (crc crcStart (bytesAt memory address count)) wanted) workDone wrongCrc
 
 -- Erase: so many pages from the first on become blank.
 unfoldable pub erased : List ℕ → ℕ → ℕ → List ℕ
@@ -94,26 +94,26 @@ wiped old new (suc page) flash =
     cond (wipes old new page) (erased rest page 1) rest
 
 -- Write options: first the wipe, then the bytes are stored. The next message already meets them.
-unfoldable pub withOptions : Device → List ℕ → Device
-withOptions device options =
-    deviceOf (device .session)
-    (wiped (optionBytes (device .nvr)) options pageCount (device .flash))
-    (device .ram)
-    (replaced (device .nvr) (optionsStart - nvrStart) options)
+unfoldable pub withOptions : Memory → List ℕ → Memory
+withOptions memory options =
+    memoryOf
+    (wiped (optionBytes (memory .nvr)) options pageCount (memory .flash))
+    (memory .ram)
+    (replaced (memory .nvr) (optionsStart - nvrStart) options)
 
 -- The work of each command, given the data of its frame. Three of them have data for their reply.
 unfoldable pub work : Settings → Device → List ℕ → Request → Worked
 work settings device payload (Pps code) = worked workDone [] (withSession device (atRate (device .session) code))
 work settings device payload Get = worked workDone (information settings) device
-work settings device payload (Read address count) = worked workDone (bytesAt device address count) device
+work settings device payload (Read address count) = worked workDone (bytesAt (device .memory) address count) device
 work settings device payload (Write flag address count) =
-    let after : Device = written device address (drop 5 payload) in
-    worked (readback flag address (drop 5 payload) after) [] after
-work settings device payload (MemoryCrc address count wanted) = worked (compared device address count wanted) [] device
-work settings device payload (Erase first count) = worked workDone [] (withFlash device (erased (device .flash) first count))
+    let after : Memory = written (device .memory) address (drop 5 payload) in
+    worked (readback flag address (drop 5 payload) after) [] (withMemory device after)
+work settings device payload (MemoryCrc address count wanted) = worked (compared (device .memory) address count wanted) [] device
+work settings device payload (Erase first count) = worked workDone [] (withMemory device (withFlash (device .memory) (erased (device .memory .flash) first count)))
 work settings device payload (Go address) = worked workDone [] (withSession device (inState (device .session) (Gone address)))
-work settings device payload WriteOptions = worked workDone [] (withOptions device payload)
-work settings device payload ReadOptions = worked workDone (optionBytes (device .nvr)) device
+work settings device payload WriteOptions = worked workDone [] (withMemory device (withOptions (device .memory) payload))
+work settings device payload ReadOptions = worked workDone (optionBytes (device .memory .nvr)) device
 work settings device payload HeartBeat = worked workDone [] device
 -- The checks let none of these through.
 work settings device payload Misshapen = worked wrongShape [] device

@@ -1,10 +1,22 @@
 // The stand-in for the TM32G07x. Document 01 is what it does; `specs/` says it again as definitions that run.
 
+mod checks;
+mod device;
+mod erase;
+mod get;
+mod go;
+mod map;
+mod memory_crc;
 mod options;
+mod pps;
+mod read;
+mod read_options;
+mod replies;
+mod requests;
+mod results;
 mod sessions;
-
-// How many pages the flash has.
-const PAGE_COUNT: u32 = 32;
+mod write;
+mod write_options;
 
 // Where a session stands.
 pub enum State {
@@ -62,4 +74,10 @@ pub enum Answer {
     Reply { length: usize },
     // Nothing was done, and 01's number, 1 to 5, says why.
     Refused { number: u8 },
+}
+
+// What a message leaves behind: the session from then on, and the answer.
+pub struct Turn {
+    pub session: Session,
+    pub answer: Answer,
 }

@@ -1,5 +1,5 @@
 // What the option bytes protect: the chip from reading, and single pages of the flash.
-use crate::PAGE_COUNT;
+use crate::map::PAGE_COUNT;
 use memory::PageRun;
 ghost use mathlib.Core.Path.{_≡_};
 ghost use Prim.Native.Nat.{_≤_, _<_};
@@ -24,22 +24,6 @@ pub(crate) fn rdp_on(options: &[u8]) -> bool
     low_byte(options, 1) != RDP_OFF
 }
 
-// Whether a page is under PCROP.
-pub(crate) fn under_pcrop(options: &[u8], page: u32) -> bool
-    requires { ⌜ length (now options) ≡ optionsLength ⌝ }
-    ensures { λ r. ⌜ r ≡ underPcrop (now (options .entry)) page ⌝ }
-{
-    in_either(options, PCROP, page)
-}
-
-// Whether a page is under WRP.
-pub(crate) fn under_wrp(options: &[u8], page: u32) -> bool
-    requires { ⌜ length (now options) ≡ optionsLength ⌝ }
-    ensures { λ r. ⌜ r ≡ underWrp (now (options .entry)) page ⌝ }
-{
-    in_either(options, WRP, page)
-}
-
 // Whether some page of a run is under PCROP.
 pub(crate) fn pcrop_meets(options: &[u8], pages: PageRun) -> bool
     requires { ⌜ length (now options) ≡ optionsLength ⌝ }
@@ -54,22 +38,6 @@ pub(crate) fn wrp_meets(options: &[u8], pages: PageRun) -> bool
     ensures { λ r. ⌜ r ≡ somePage (underWrp (now (options .entry))) pages ⌝ }
 {
     either_meets(options, WRP, pages)
-}
-
-// Whether a page is in one of two ranges, of which the first starts in a halfword. One page is a run of one.
-fn in_either(options: &[u8], halfword: usize, page: u32) -> bool
-    requires { ⌜ length (now options) ≡ optionsLength ⌝ }
-    requires { ⌜ (1 ≤ halfword) × (halfword < 9) ⌝ }
-    ensures { λ r. ⌜ r ≡ inEither (now (options .entry)) halfword page ⌝ }
-{
-    either_meets(
-        options,
-        halfword,
-        PageRun {
-            first: page,
-            count: 1,
-        },
-    )
 }
 
 // Whether some page of a run is in one of the two ranges.

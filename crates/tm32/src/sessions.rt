@@ -3,7 +3,7 @@ use crate::Link;
 use crate::Session;
 use crate::State;
 ghost use mathlib.Core.Path.{_≡_};
-ghost use Rattle.tm32.specs.Device.{restart as restartIs, sessionOf, start as startIs};
+ghost use Rattle.tm32.specs.Device.{atRate, inState, restart as restartIs, sessionOf, start as startIs};
 ghost use Rattle.tm32.specs.Rates.{bitsPerSecond};
 
 // The rate code of a start.
@@ -56,6 +56,22 @@ impl Session {
             return 0;
         }
         RATES[code - 1]
+    }
+
+    // The session at another rate, and in another state.
+    pub(crate) fn at_rate(self, rate: u8) -> Session
+        ensures { λ r. ⌜ r ≡ atRate self rate ⌝ }
+    {
+        let state = self.state;
+        let link = self.link;
+        of(state, link, rate)
+    }
+
+    pub(crate) fn in_state(self, state: State) -> Session
+        ensures { λ r. ⌜ r ≡ inState self state ⌝ }
+    {
+        let link = self.link;
+        of(state, link, self.rate)
     }
 }
 

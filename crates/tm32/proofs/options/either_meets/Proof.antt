@@ -1,25 +1,18 @@
 -- `tm32::options::either_meets` meets its contract: the first range, and if it has no page of the run, the second. Tried page by page or range by range comes to the same.
-use mathlib.Core.Bool.{Bool, true, false, _||_}
-use mathlib.Core.Path.{_≡_, sym, ap, _∙_}
+use mathlib.Core.Path.{sym, _∙_}
 use borrow.Author.Needs.{needs}
 use Rattle.memory.proofs.Laws.{some-either}
 use Rattle.tm32.specs.Options.{inEither}
+use Rattle.tm32.proofs.Tests.{first-holds, second-decides}
 use Rattle.tm32.proofs.options.either_meets.Statement.{statement}
 use Rattle.tm32.proofs.options.either_meets.Tie as tie
-
--- two tests, one after the other: the answer where the first holds, and where it does not
-first-holds : {one : Bool} (other : Bool) → one ≡ true → true ≡ one || other
-first-holds other holds = sym (ap (λ (test : Bool). test || other) holds)
-
-second-decides : {one : Bool} (other : Bool) {answer : Bool} → one ≡ false → answer ≡ other → answer ≡ one || other
-second-decides other fails same = same ∙ sym (ap (λ (test : Bool). test || other) fails)
 
 range-meets-requires : tie.Need-range-meets-requires
 range-meets-requires c κs = search needs
 
 returns : tie.Need-returns
 unfolding inEither
-returns c = first-holds _ (sym (c .before .range-meets .ensures) ∙ c .if1 .taken) ∙ sym (some-either _ _ _)
+returns c = first-holds _ (c .before .range-meets .ensures) (c .if1 .taken) ∙ sym (some-either _ _ _)
 
 add-range-meets : tie.Need-add-range-meets
 add-range-meets c = search needs
@@ -31,7 +24,7 @@ returns-2 : tie.Need-returns-2
 unfolding inEither
 returns-2 c =
     let first = c .before in
-    second-decides _ (sym (first .before .range-meets .ensures) ∙ first .if1 .left) (c .range-meets2 .ensures)
+    second-decides _ (first .before .range-meets .ensures) (first .if1 .left) (c .range-meets2 .ensures)
     ∙ sym (some-either _ _ _)
 
 pub either-meets-spec : {M : Type 1} → statement M

@@ -1,0 +1,169 @@
+-- Document 01, "A message and its reply": a reply fits the room that is lent for it, and its result is one of 01's table.
+use Prim.Native.Nat.{ℕ, _-_, _≤_}
+use mathlib.Core.Bool.{Bool, true, not, _&&_, false≢true}
+use mathlib.Core.List.{List, [], _∷_}
+use mathlib.Core.Path.{_≡_, refl, sym, ap, _∙_}
+use native.Mathlib.Omega.{arith}
+use lib.Dec.{eqb, lit≤}
+use lib.ListN.{length, drop, getD, length-append}
+use Rattle.frame.specs.Crc.{crc}
+use Rattle.frame.specs.Frame.{covered, dataOf, frame, word}
+use Rattle.frame.proofs.Laws.{length-frame}
+use Rattle.memory.specs.Stores.{same}
+use Rattle.tm32.specs.After.{replied, tell}
+use Rattle.tm32.specs.Checks.{mostBytes, noneFails}
+use Rattle.tm32.specs.Device.{Device, bytesAt, crcStart}
+use Rattle.tm32.specs.Map.{nvrStart, optionsLength, optionsStart}
+use Rattle.tm32.specs.Numbers.{long}
+use Rattle.tm32.specs.Options.{optionBytes}
+use Rattle.tm32.specs.Request.{requestIn}
+use Rattle.tm32.specs.Respond.{Answered, greet, helloBack, refuse, replyTo, respond}
+use Rattle.tm32.specs.Results.{noHandshake}
+use Rattle.tm32.specs.Work.{compared, information, readback, work, written}
+use Rattle.tm32.specs.declared.Request.{Request}
+use Rattle.tm32.specs.declared.Request.the-variants.{Pps, Get, Read, Write, MemoryCrc, Erase, Go, WriteOptions, ReadOptions, HeartBeat, Misshapen}
+use Rattle.tm32.specs.declared.Settings.{Settings}
+use Rattle.tm32.proofs.Accepted.{of-both, read-accepted}
+use Rattle.tm32.proofs.Written.{part-length, read-length}
+use Rattle.demands.specs.Accepted.{Heard, greeted, heard-so, reply-told, silent, turnedAway, unshaken, workedOn}
+use Rattle.demands.specs.FirstFailing.{FirstFailing, number-so, order-so, passAll, requestChecks}
+use Rattle.demands.specs.Order.{order}
+use Rattle.demands.specs.Refused.{isOneOf}
+
+-- 01's table of results.
+unfoldable pub results : List ℕ
+results = 0x90 ∷ 0x80 ∷ 0x91 ∷ 0xF5 ∷ 0xF0 ∷ 0xF2 ∷ 0xF3 ∷ 0xF1 ∷ 0x62 ∷ 0x63 ∷ 0x61 ∷ 0xF4 ∷ 0x92 ∷ []
+
+-- Whether a number is one of these.
+unfoldable pub isResult : ℕ → Bool
+isResult number = isOneOf results number
+
+-- What a reply can be: nothing, the answer to the handshake, or the frame of a result of the table.
+pub data Reply : List ℕ → Type 0 where
+  nothing : Reply []
+  greeting : Reply helloBack
+  framed : (number : ℕ) (payload : List ℕ) → isResult number ≡ true → Reply (frame crcStart number payload)
+
+-- That the settings have the lengths that Get tells of: two bytes of version, and twelve of serial number.
+pub record Sized (settings : Settings) : Type 0 where
+  pub version : length (settings .version) ≡ 2
+  pub serial : length (settings .serial) ≡ 12
+
+-- ---- results
+
+-- a request is refused with a number of the table
+pub refusal-result : (device : Device) (request : Request) (number : ℕ) → FirstFailing (requestChecks device request) number → isResult number ≡ true
+unfolding passAll isResult isOneOf results order
+refusal-result device request number found =
+    number-so isResult (requestChecks device request) number (order-so isResult refl (device .session .link) (optionBytes (device .memory .nvr)) request) found
+
+-- and before the handshake too
+pub unshaken-result : isResult noHandshake ≡ true
+unfolding isResult isOneOf results
+unshaken-result = refl
+
+module _ (settings : Settings) (device : Device) (payload : List ℕ) where
+  -- and work ends with one
+  pub work-result : (request : Request) → isResult (work settings device payload request .result) ≡ true
+  unfolding work isResult isOneOf results readback compared
+  work-result (Pps code) = refl
+  work-result Get = refl
+  work-result (Read address count) = refl
+  work-result (Write flag address count) =
+      let bytes = drop 5 payload in
+      let after = written (device .memory) address bytes in
+      of-both (λ (number : ℕ). isResult number ≡ true) (eqb flag 1 && not (same (bytesAt after address (length bytes)) bytes)) refl refl
+  work-result (MemoryCrc address count wanted) =
+      of-both (λ (number : ℕ). isResult number ≡ true) (eqb (crc crcStart (bytesAt (device .memory) address count)) wanted) refl refl
+  work-result (Erase first count) = refl
+  work-result (Go address) = refl
+  work-result WriteOptions = refl
+  work-result ReadOptions = refl
+  work-result HeartBeat = refl
+  work-result Misshapen = refl
+
+module _ (settings : Settings) (device : Device) (message : List ℕ) where
+  -- by the way of the message
+  by-way : (answer : Answered) → Heard settings device message answer → Reply (answer .reply)
+  unfolding greet refuse replyTo
+  by-way answer silent = nothing
+  by-way answer greeted = greeting
+  by-way answer unshaken = framed noHandshake [] unshaken-result
+  by-way answer (turnedAway number found) = framed number [] (refusal-result device (requestIn message) number found)
+  by-way answer (workedOn pass) = framed _ _ (work-result settings device (dataOf message) (requestIn message))
+
+  -- every reply is one of the three
+  pub reply-so : Reply (respond settings device message .reply)
+  reply-so = by-way (respond settings device message) (heard-so settings device message)
+
+-- and so is one that is told
+pub told-so : (settings : Settings) (device : Device) (message : List ℕ) (room : ℕ) (bytes : List ℕ) → tell settings device message room .told ≡ replied bytes → Reply bytes
+told-so settings device message room bytes is = reply-told settings device message room Reply bytes (λ sized. reply-so settings device message) is
+
+-- a frame of another number is none of them
+other-result : (bytes payload : List ℕ) → Reply bytes → bytes ≡ frame crcStart 0x93 payload → ⊥
+unfolding isResult isOneOf results frame covered
+other-result bytes payload nothing is =
+    let head : _≡_ {A = ℕ} 0 0x2D = ap (λ (list : List ℕ). getD list 0 0) is in
+    omega arith
+other-result bytes payload greeting is =
+    let head : _≡_ {A = ℕ} 0x79 0x2D = ap (λ (list : List ℕ). getD list 0 0) is in
+    omega arith
+other-result bytes payload (framed number own table) is =
+    let second = ap (λ (list : List ℕ). getD list 1 0) is in
+    false≢true (ap isResult (sym second) ∙ table)
+
+-- so no reply has the result 0x93
+pub never-0x93 : (settings : Settings) (device : Device) (message payload : List ℕ) → respond settings device message .reply ≡ frame crcStart 0x93 payload → ⊥
+never-0x93 settings device message payload is = other-result (respond settings device message .reply) payload (reply-so settings device message) is
+
+-- ---- lengths
+
+-- the option bytes fit a reply
+options-short : (nvr : List ℕ) → length (optionBytes nvr) ≤ mostBytes
+unfolding optionBytes
+options-short nvr = omega (arith, part-length nvr (optionsStart - nvrStart) optionsLength)
+
+-- Get tells 24 bytes
+information-length : (settings : Settings) → Sized settings → length (information settings) ≡ 24
+unfolding information long word
+information-length settings sized = simp length-append (omega arith)
+
+module _ (settings : Settings) (sized : Sized settings) (device : Device) (payload : List ℕ) where
+  -- and so does all that a command replies
+  payload-short : (request : Request) → noneFails (requestChecks device request) ≡ true → length (work settings device payload request .payload) ≤ mostBytes
+  unfolding work
+  payload-short (Pps code) pass = lit≤ tt
+  payload-short Get pass = omega (arith, information-length settings sized)
+  payload-short (Read address count) pass = omega (arith, read-length (device .memory) address count, read-accepted _ _ address count pass .short)
+  payload-short (Write flag address count) pass = lit≤ tt
+  payload-short (MemoryCrc address count wanted) pass = lit≤ tt
+  payload-short (Erase first count) pass = lit≤ tt
+  payload-short (Go address) pass = lit≤ tt
+  payload-short WriteOptions pass = lit≤ tt
+  payload-short ReadOptions pass = options-short (device .memory .nvr)
+  payload-short HeartBeat pass = lit≤ tt
+  payload-short Misshapen pass = lit≤ tt
+
+module _ (settings : Settings) (sized : Sized settings) (device : Device) (message : List ℕ) where
+  -- by the way of the message
+  by-length : (answer : Answered) → Heard settings device message answer → length (answer .reply) ≤ 1030
+  unfolding greet refuse replyTo
+  by-length answer silent = lit≤ tt
+  by-length answer greeted = lit≤ tt
+  by-length answer unshaken = omega (arith, length-frame crcStart noHandshake [])
+  by-length answer (turnedAway number found) = omega (arith, length-frame crcStart number [])
+  by-length answer (workedOn pass) =
+      let done = work settings device (dataOf message) (requestIn message) in
+      omega (arith, length-frame crcStart (done .result) (done .payload), payload-short settings sized device (dataOf message) (requestIn message) pass)
+
+  -- a reply that is told is never longer than the room that must be lent for it
+  pub reply-fits : (room : ℕ) (bytes : List ℕ) → tell settings device message room .told ≡ replied bytes → length bytes ≤ 1030
+  reply-fits room bytes is =
+      reply-told settings device message room (λ (list : List ℕ). length list ≤ 1030) bytes (λ known. by-length (respond settings device message) (heard-so settings device message)) is
+
+  -- so it fits the room that was lent
+  pub reply-in-room : (room : ℕ) (bytes : List ℕ) → tell settings device message room .told ≡ replied bytes → length bytes ≤ room
+  reply-in-room room bytes is =
+      reply-told settings device message room (λ (list : List ℕ). length list ≤ room) bytes
+      (λ known. omega (arith, known .space, by-length (respond settings device message) (heard-so settings device message))) is

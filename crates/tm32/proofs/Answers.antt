@@ -1,0 +1,76 @@
+-- A reply that was laid over the buffer, as the whole of what a message leaves.
+use Prim.Native.Nat.{ℕ}
+use mathlib.Core.Bool.{false}
+use mathlib.Core.List.{List, []}
+use mathlib.Core.Path.{_≡_, refl, sym, ap, ap₂, _∙_}
+use lib.Dec.{eqb}
+use lib.ListN.{length}
+use borrow.Author.Tests.{eq-eqb, ne-eqb}
+use Rattle.frame.specs.Frame.{frame, laid}
+use Rattle.tm32.specs.After.{Laid, after, callChecks, lay, layAnswer, leaves, tell, turnOf}
+use Rattle.tm32.specs.Checks.{verdict}
+use Rattle.tm32.specs.Device.{Device, crcStart, deviceOf, memoryOf}
+use Rattle.tm32.specs.Respond.{Answered, answered, refuse, replyTo, respond, respondIn, serve, verdictOn}
+use Rattle.tm32.specs.Results.{workDone}
+use Rattle.tm32.specs.Work.{work, worked}
+use Rattle.tm32.specs.declared.Answer.the-variants.{Refused, Reply}
+use Rattle.tm32.specs.declared.Request.{Request}
+use Rattle.tm32.specs.declared.Session.{Session}
+use Rattle.tm32.specs.declared.Settings.{Settings}
+use Rattle.tm32.specs.declared.State.{State}
+use Rattle.tm32.specs.declared.Turn.{Turn}
+
+module _ (flash ram nvr : List ℕ) {turn : Turn} {after buffer : List ℕ} {session : Session} where
+  -- the device and the reply are those of an answer
+  pub answers : {reply : List ℕ} {answer : Answered} → Laid turn after session reply buffer → answered (deviceOf session (memoryOf flash ram nvr)) reply ≡ answer
+      → leaves turn flash ram nvr after ≡ layAnswer buffer answer
+  unfolding lay
+  answers did same =
+      ap₂ (λ (one : Turn) (list : List ℕ). leaves one flash ram nvr list) (did .handed) (did .over)
+      ∙ ap (layAnswer buffer) same
+
+  -- the same of the work of a request that is known
+  pub works : (settings : Settings) (device : Device) (payload : List ℕ) {request known : Request} {result : ℕ} {bytes : List ℕ}
+      → request ≡ known → Laid turn after session (frame crcStart result bytes) buffer
+      → worked result bytes (deviceOf session (memoryOf flash ram nvr)) ≡ work settings device payload known
+      → leaves turn flash ram nvr after ≡ layAnswer buffer (replyTo (work settings device payload request))
+  unfolding replyTo
+  works settings device payload named did same =
+      answers did (ap replyTo (same ∙ ap (work settings device payload) (sym named)))
+
+-- nothing laid over a buffer
+pub nothing-laid : {turn : Turn} {session : Session} (buffer : List ℕ) → turn ≡ turnOf session (Reply 0) → Laid turn buffer session [] buffer
+unfolding laid
+nothing-laid buffer handed = record { handed = handed; over = refl }
+
+module _ (settings : Settings) (device : Device) where
+  -- a request is refused where the verdict on it is a number, and worked on where it is not
+  pub refuses : (payload : List ℕ) (request : Request) {number : ℕ} → number ≡ verdictOn device request → (number ≡ workDone → ⊥)
+      → answered device (frame crcStart number []) ≡ serve settings device payload request
+  unfolding serve refuse
+  refuses payload request told failed = ap (λ (one : ℕ). answered device (frame crcStart one [])) told ∙ simp (ne-eqb _ _ (λ same. failed (told ∙ same)))
+
+  pub serves : (payload : List ℕ) {request asked : Request} → request ≡ asked → verdictOn device request ≡ workDone
+      → replyTo (work settings device payload request) ≡ serve settings device payload asked
+  unfolding serve
+  serves payload {request} same passes =
+      let works : replyTo (work settings device payload request) ≡ serve settings device payload request = simp (eq-eqb _ _ passes) in
+      works ∙ ap (serve settings device payload) same
+
+  -- a message that is not empty, by the state
+  pub answers-in : (message : List ℕ) {state : State} → (length message ≡ 0 → ⊥) → device .session .state ≡ state
+      → respondIn state settings device message ≡ respond settings device message
+  unfolding respond
+  answers-in message some at = ap (λ (one : State). respondIn one settings device message) (sym at) ∙ simp (ne-eqb (length message) 0 some)
+
+  -- a call is told the number of a check that fails, and is heard where none does
+  pub unheard : (message buffer : List ℕ) {turn : Turn} (number : ℕ) → verdict 0 (callChecks device (length buffer)) ≡ number → eqb number 0 ≡ false
+      → turn ≡ turnOf (device .session) (Refused number)
+      → leaves turn (device .memory .flash) (device .memory .ram) (device .memory .nvr) buffer ≡ after settings device message buffer
+  unfolding after tell lay
+  unheard message buffer number told some handed =
+      ap (λ (one : Turn). leaves one (device .memory .flash) (device .memory .ram) (device .memory .nvr) buffer) handed ∙ simp (told, some)
+
+  pub heard : (message buffer : List ℕ) → verdict 0 (callChecks device (length buffer)) ≡ 0 → layAnswer buffer (respond settings device message) ≡ after settings device message buffer
+  unfolding after tell
+  heard message buffer told = simp told

@@ -1,0 +1,8 @@
+-- Laws that more than one proof cites. `Accepted`: what is known of a request that the checks let through. `Answers`: a reply laid over the buffer, as the whole of what a message leaves.
+-- `Regions`: ranges in the regions of the map. `Tests`: tests made one after the other. `Verdicts`: lists of checks, one behind the other. `Written`: stores, and pages that are erased.
+pub mod Accepted
+mod Answers
+mod Regions
+mod Tests
+pub mod Verdicts
+pub mod Written

@@ -1,0 +1,134 @@
+-- `tm32::Session::answer` meets its contract: the code's five tests are the checks of a call, in their order.
+use Prim.Native.Nat.{ℕ}
+use mathlib.Core.Path.{_≡_, refl, sym, _∙_}
+use denote.Ref.{now}
+use lib.ListN.{length}
+use borrow.Author.Needs.{needs}
+use borrow.Author.Tests.{eq-eqb, le-ltb, lt-ltb, ne-eqb, not-false, not-true}
+use Rattle.tm32.specs.After.{callChecks}
+use Rattle.tm32.specs.Checks.{verdict}
+use Rattle.tm32.specs.Device.{Device, deviceOf, memoryOf}
+use Rattle.tm32.proofs.Answers.{heard, unheard}
+use Rattle.tm32.proofs.Session.answer.Statement.{statement}
+use Rattle.tm32.proofs.Session.answer.Tie as tie
+
+module _ (c : tie.After-slice-known4) where
+  abbrev start : tie.Start
+  start = c .before .before .before .before .before
+
+  abbrev device : Device
+  device = deviceOf (start .args .self) (memoryOf (now (start .args .flash)) (now (start .args .ram)) (now (start .args .nvr)))
+
+  -- What the checks of the call say.
+  abbrev Says : ℕ → Type 0
+  Says number = verdict 0 (callChecks device (length (now (start .args .buffer)))) ≡ number
+
+-- 1
+returns : tie.Need-returns
+unfolding callChecks verdict
+returns c =
+    let flash = c .before in
+    let says : Says (flash .before) 1 = simp (ne-eqb _ _ (flash .if1 .taken)) in
+    unheard _ (device (flash .before)) _ _ 1 says refl (c .refused .ensures)
+
+-- 2
+returns-2 : tie.Need-returns-2
+unfolding callChecks verdict
+returns-2 c =
+    let ram = c .before in
+    let flash = ram .before in
+    let says : Says (flash .before) 2 = simp (eq-eqb _ _ (flash .if1 .left), ne-eqb _ _ (ram .if2 .taken)) in
+    unheard _ (device (flash .before)) _ _ 2 says refl (c .refused2 .ensures)
+
+-- 3
+returns-3 : tie.Need-returns-3
+unfolding callChecks verdict
+returns-3 c =
+    let nvr = c .before in
+    let ram = nvr .before in
+    let flash = ram .before in
+    let says : Says (flash .before) 3 = simp (eq-eqb _ _ (flash .if1 .left), eq-eqb _ _ (ram .if2 .left), ne-eqb _ _ (nvr .if3 .taken)) in
+    unheard _ (device (flash .before)) _ _ 3 says refl (c .refused3 .ensures)
+
+-- 4
+returns-4 : tie.Need-returns-4
+unfolding callChecks verdict
+returns-4 c =
+    let room = c .before in
+    let nvr = room .before in
+    let ram = nvr .before in
+    let flash = ram .before in
+    let says : Says (flash .before) 4 =
+    simp (eq-eqb _ _ (flash .if1 .left), eq-eqb _ _ (ram .if2 .left), eq-eqb _ _ (nvr .if3 .left), lt-ltb _ _ (room .if4 .taken)) in
+    unheard _ (device (flash .before)) _ _ 4 says refl (c .refused4 .ensures)
+
+-- 5
+returns-5 : tie.Need-returns-5
+unfolding callChecks verdict
+returns-5 c =
+    let rate = c .before in
+    let room = rate .before .before in
+    let nvr = room .before in
+    let ram = nvr .before in
+    let flash = ram .before in
+    let says : Says (flash .before) 5 =
+    simp (
+      eq-eqb _ _ (flash .if1 .left),
+      eq-eqb _ _ (ram .if2 .left),
+      eq-eqb _ _ (nvr .if3 .left),
+      le-ltb _ _ (room .if4 .left),
+      sym (rate .before .is-rate .ensures) ∙ not-true _ (rate .if5 .taken),
+    ) in
+    unheard _ (device (flash .before)) _ _ 5 says refl (c .refused5 .ensures)
+
+respond-requires : tie.Need-respond-requires
+respond-requires c κs =
+    let room = c .before .before .before .before .before .before in
+    let nvr = room .before in
+    let ram = nvr .before in
+    (ram .before .if1 .left, (ram .if2 .left, (nvr .if3 .left, room .if4 .left)))
+
+returns-6 : tie.Need-returns-6
+unfolding callChecks verdict
+returns-6 c =
+    let respond = c .before .before .before .before .before .before .before .before in
+    let rate = respond .before .before .before .before .before in
+    let room = rate .before .before in
+    let nvr = room .before in
+    let ram = nvr .before in
+    let flash = ram .before in
+    let says : Says (flash .before) 0 =
+    simp (
+      eq-eqb _ _ (flash .if1 .left),
+      eq-eqb _ _ (ram .if2 .left),
+      eq-eqb _ _ (nvr .if3 .left),
+      le-ltb _ _ (room .if4 .left),
+      sym (rate .before .is-rate .ensures) ∙ not-false _ (rate .if5 .left),
+    ) in
+    respond .respond .ensures ∙ heard _ (device (flash .before)) _ _ says
+
+-- what the search finds: what calls ask that is asked here too, and that no call changes the length of a slice
+pub answer-spec : {M : Type 1} → statement M
+answer-spec =
+    tie.close
+    (tie.spec
+    (search needs)
+    (search needs)
+    returns
+    (search needs)
+    (search needs)
+    returns-2
+    (search needs)
+    (search needs)
+    returns-3
+    (search needs)
+    returns-4
+    (search needs)
+    (search needs)
+    returns-5
+    respond-requires
+    (search needs)
+    (search needs)
+    (search needs)
+    (search needs)
+    returns-6)

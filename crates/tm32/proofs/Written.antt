@@ -1,0 +1,54 @@
+-- What stores, erases and wipes leave in memory that has room for them, and how long it is, and how much is read of it.
+use Prim.Native.Nat.{ℕ, zero, suc, _+_, _*_, _≤_}
+use mathlib.Core.Bool.{Bool}
+use mathlib.Core.List.{List}
+use mathlib.Core.Path.{_≡_, ap, _∙_}
+use native.Mathlib.Omega.{arith}
+use lib.ListN.{length, length-replicate, length-take, drop, replicate}
+use Rattle.memory.specs.Stores.{Change, change, part, replaced, replacing}
+use Rattle.memory.proofs.Laws.{length-part, length-replaced, stored}
+use Rattle.tm32.specs.Device.{Memory, bytesAt}
+use Rattle.tm32.specs.Map.{blank, flashLength, inFlash, inRam, nvrLength, optionsLength, pageCount, pageSize}
+use Rattle.tm32.specs.Options.{optionBytes}
+use Rattle.tm32.specs.Work.{erased, wiped, wipes}
+use Rattle.tm32.proofs.Accepted.{of-both}
+
+-- bytes that fit stand in the memory after the store
+pub stores : (memory : List ℕ) (place : ℕ) (bytes : List ℕ) → place + length bytes ≤ length memory
+    → (done : Bool) (after : List ℕ) → change done after ≡ replacing memory place bytes → after ≡ replaced memory place bytes
+stores memory place bytes fits done after told = ap (λ (did : Change). did .memory) (told ∙ stored memory place bytes fits)
+
+-- pages that the flash has lie in it
+pub pages-fit : (flash : List ℕ) (first count : ℕ) → length flash ≡ flashLength → first + count ≤ pageCount
+    → first * pageSize + length (replicate (count * pageSize) blank) ≤ length flash
+pages-fit flash first count long known = omega (arith, length-replicate (count * pageSize) blank)
+
+-- an erase keeps the flash's length
+pub erased-length : (flash : List ℕ) (first count : ℕ) → length flash ≡ flashLength → first + count ≤ pageCount → length (erased flash first count) ≡ flashLength
+unfolding erased
+erased-length flash first count long known = length-replaced flash _ _ (pages-fit flash first count long known) ∙ long
+
+-- and so does the wipe
+pub wiped-length : (old new : List ℕ) (page : ℕ) (flash : List ℕ) → length flash ≡ flashLength → page ≤ pageCount
+    → length (wiped old new page flash) ≡ flashLength
+unfolding wiped
+wiped-length old new zero flash long known = long
+wiped-length old new (suc page) flash long known =
+    let same = wiped-length old new page flash long (omega arith) in
+    of-both (λ (rest : List ℕ). length rest ≡ flashLength) (wipes old new page) (erased-length _ page 1 same (omega arith)) same
+
+-- an NVR has all its option bytes
+pub options-length : (nvr : List ℕ) → length nvr ≡ nvrLength → length (optionBytes nvr) ≡ optionsLength
+unfolding optionBytes
+options-length nvr long = length-part nvr _ _ (omega arith)
+
+-- no more bytes are read than were asked for
+pub part-length : (memory : List ℕ) (place count : ℕ) → length (part memory place count) ≤ count
+unfolding part
+part-length memory place count = omega (arith, length-take count (drop place memory))
+
+pub read-length : (memory : Memory) (address count : ℕ) → length (bytesAt memory address count) ≤ count
+unfolding bytesAt
+read-length memory address count =
+    let short : List ℕ → Type 0 = λ bytes. length bytes ≤ count in
+    of-both short (inFlash address count) (part-length _ _ count) (of-both short (inRam address count) (part-length _ _ count) (part-length _ _ count))

@@ -1,0 +1,243 @@
+// The device: one message, with the memory and the reply buffer that are lent for it.
+use crate::Answer;
+use crate::Request;
+use crate::Session;
+use crate::Settings;
+use crate::State;
+use crate::Turn;
+use crate::checks;
+use crate::erase;
+use crate::get;
+use crate::go;
+use crate::map::FLASH_LENGTH;
+use crate::map::NVR_LENGTH;
+use crate::map::RAM_LENGTH;
+use crate::memory_crc;
+use crate::pps;
+use crate::read;
+use crate::read_options;
+use crate::replies::reply;
+use crate::replies::reply_with;
+use crate::requests::bytes_to_write;
+use crate::requests::request_in;
+use crate::results::NO_HANDSHAKE;
+use crate::results::WORK_DONE;
+use crate::results::WRONG_SHAPE;
+use crate::write;
+use crate::write_options;
+ghost use mathlib.Core.Path.{_≡_};
+ghost use Prim.Native.Nat.{_≤_};
+ghost use lib.ListN.{length};
+ghost use Rattle.frame.specs.Frame.{dataOf};
+ghost use Rattle.memory.specs.Stores.{same};
+ghost use Rattle.tm32.specs.After.{Laid, after, layAnswer, leaves, replyRoom, turnOf};
+ghost use Rattle.tm32.specs.Device.{deviceOf, inState, memoryOf};
+ghost use Rattle.tm32.specs.Map.{flashLength, nvrLength, ramLength};
+ghost use Rattle.tm32.specs.Request.{requestIn};
+ghost use Rattle.tm32.specs.Respond.{hello, helloBack, replyTo, respond as respondIs, serve as serveIs, verdictOn};
+ghost use Rattle.tm32.specs.Results.{workDone};
+ghost use Rattle.tm32.specs.Work.{work as workIs};
+
+// The byte that a host shakes hands with, and the byte that answers it.
+const HELLO: u8 = 0x7F;
+
+const HELLO_BACK: u8 = 0x79;
+
+// How long a lent reply buffer must be at least.
+const REPLY_ROOM: usize = 1030;
+
+impl Session {
+    // A message: the session from then on, beside the length of the reply that stands at the start of the lent buffer, or a
+    // refusal from 1 to 5.
+    pub fn answer(
+        self,
+        settings: Settings,
+        message: &[u8],
+        flash: &mut [u8],
+        ram: &mut [u8],
+        nvr: &mut [u8],
+        buffer: &mut [u8],
+    ) -> Turn
+        ensures { λ r. ⌜ leaves r (now (flash .exit)) (now (ram .exit)) (now (nvr .exit)) (now (buffer .exit)) ≡ after settings (deviceOf self (memoryOf (now (flash .entry)) (now (ram .entry)) (now (nvr .entry)))) (now (message .entry)) (now (buffer .entry)) ⌝ }
+    {
+        if flash.len() != FLASH_LENGTH as usize {
+            return refused(self, 1);
+        }
+        if ram.len() != RAM_LENGTH as usize {
+            return refused(self, 2);
+        }
+        if nvr.len() != NVR_LENGTH as usize {
+            return refused(self, 3);
+        }
+        if buffer.len() < REPLY_ROOM {
+            return refused(self, 4);
+        }
+        if !checks::is_rate(self.rate) {
+            return refused(self, 5);
+        }
+        respond(self, settings, message, flash, ram, nvr, buffer)
+    }
+}
+
+// A call of which nothing comes but a number.
+fn refused(session: Session, number: u8) -> Turn
+    ensures { λ r. ⌜ r ≡ turnOf session (Answer.Refused number) ⌝ }
+{
+    Turn {
+        session,
+        answer: Answer::Refused { number },
+    }
+}
+
+// A message that draws an empty reply.
+fn silent(session: Session) -> Turn
+    ensures { λ r. ⌜ r ≡ turnOf session (Answer.Reply 0) ⌝ }
+{
+    Turn {
+        session,
+        answer: Answer::Reply { length: 0 },
+    }
+}
+
+// The answer to a message, by the state of the session.
+fn respond(
+    session: Session,
+    settings: Settings,
+    message: &[u8],
+    flash: &mut [u8],
+    ram: &mut [u8],
+    nvr: &mut [u8],
+    buffer: &mut [u8],
+) -> Turn
+    requires { ⌜ length (now flash) ≡ flashLength ⌝ }
+    requires { ⌜ length (now ram) ≡ ramLength ⌝ }
+    requires { ⌜ length (now nvr) ≡ nvrLength ⌝ }
+    requires { ⌜ replyRoom ≤ length (now buffer) ⌝ }
+    ensures { λ r. ⌜ leaves r (now (flash .exit)) (now (ram .exit)) (now (nvr .exit)) (now (buffer .exit)) ≡ layAnswer (now (buffer .entry)) (respondIs settings (deviceOf session (memoryOf (now (flash .entry)) (now (ram .entry)) (now (nvr .entry)))) (now (message .entry))) ⌝ }
+{
+    if message.len() == 0 {
+        return silent(session);
+    }
+    let state = session.state;
+    match state {
+        State::Waiting => {
+            if is_hello(message) {
+                return greet(session, buffer);
+            }
+            reply(session, NO_HANDSHAKE, buffer)
+        }
+        State::Talking => {
+            if is_hello(message) {
+                return greet(session, buffer);
+            }
+            serve(session, settings, message, flash, ram, nvr, buffer)
+        }
+        State::Gone { address: _ } => silent(session),
+    }
+}
+
+// Whether a message is the handshake.
+fn is_hello(message: &[u8]) -> bool
+    ensures { λ r. ⌜ r ≡ same (now (message .entry)) hello ⌝ }
+{
+    if message.len() != 1 {
+        return false;
+    }
+    message[0] == HELLO
+}
+
+// The handshake, answered.
+fn greet(session: Session, buffer: &mut [u8]) -> Turn
+    requires { ⌜ replyRoom ≤ length (now buffer) ⌝ }
+    ensures { λ r. ⌜ Laid r (now (buffer .exit)) (inState session State.Talking) helloBack (now (buffer .entry)) ⌝ }
+{
+    buffer[0] = HELLO_BACK;
+    Turn {
+        session: session.in_state(State::Talking),
+        answer: Answer::Reply { length: 1 },
+    }
+}
+
+// What a Talking device does with a message: it is read, checked, and refused or worked on.
+fn serve(
+    session: Session,
+    settings: Settings,
+    message: &[u8],
+    flash: &mut [u8],
+    ram: &mut [u8],
+    nvr: &mut [u8],
+    buffer: &mut [u8],
+) -> Turn
+    requires { ⌜ length (now flash) ≡ flashLength ⌝ }
+    requires { ⌜ length (now ram) ≡ ramLength ⌝ }
+    requires { ⌜ length (now nvr) ≡ nvrLength ⌝ }
+    requires { ⌜ replyRoom ≤ length (now buffer) ⌝ }
+    ensures { λ r. ⌜ leaves r (now (flash .exit)) (now (ram .exit)) (now (nvr .exit)) (now (buffer .exit)) ≡ layAnswer (now (buffer .entry)) (serveIs settings (deviceOf session (memoryOf (now (flash .entry)) (now (ram .entry)) (now (nvr .entry)))) (dataOf (now (message .entry))) (requestIn (now (message .entry)))) ⌝ }
+{
+    let request = request_in(message);
+    let link = session.link;
+    let number = checks::verdict(link, read_options::work(nvr), request);
+    if number != WORK_DONE {
+        return reply(session, number, buffer);
+    }
+    work(session, settings, request, message, flash, ram, nvr, buffer)
+}
+
+// The work of a request that the checks let through.
+fn work(
+    session: Session,
+    settings: Settings,
+    request: Request,
+    message: &[u8],
+    flash: &mut [u8],
+    ram: &mut [u8],
+    nvr: &mut [u8],
+    buffer: &mut [u8],
+) -> Turn
+    requires { ⌜ length (now flash) ≡ flashLength ⌝ }
+    requires { ⌜ length (now ram) ≡ ramLength ⌝ }
+    requires { ⌜ length (now nvr) ≡ nvrLength ⌝ }
+    requires { ⌜ replyRoom ≤ length (now buffer) ⌝ }
+    requires { ⌜ request ≡ requestIn (now message) ⌝ }
+    requires { ⌜ verdictOn (deviceOf session (memoryOf (now flash) (now ram) (now nvr))) request ≡ workDone ⌝ }
+    ensures { λ r. ⌜ leaves r (now (flash .exit)) (now (ram .exit)) (now (nvr .exit)) (now (buffer .exit)) ≡ layAnswer (now (buffer .entry)) (replyTo (workIs settings (deviceOf session (memoryOf (now (flash .entry)) (now (ram .entry)) (now (nvr .entry)))) (dataOf (now (message .entry))) request)) ⌝ }
+{
+    match request {
+        Request::Pps { code } => reply(pps::work(session, code), WORK_DONE, buffer),
+        Request::Get => reply_with(session, WORK_DONE, &get::work(settings), buffer),
+        Request::Read { address, count } => {
+            let bytes = read::work(flash, ram, nvr, address, count);
+            reply_with(session, WORK_DONE, bytes, buffer)
+        }
+        Request::Write {
+            flag,
+            address,
+            count: _,
+        } => {
+            let bytes = bytes_to_write(frame::data_of(message));
+            let result = write::work(flash, ram, nvr, flag, address, bytes);
+            reply(session, result, buffer)
+        }
+        Request::MemoryCrc {
+            address,
+            count,
+            crc,
+        } => {
+            let result = memory_crc::work(flash, ram, nvr, address, count, crc);
+            reply(session, result, buffer)
+        }
+        Request::Erase { first, count } => {
+            erase::work(flash, first, count);
+            reply(session, WORK_DONE, buffer)
+        }
+        Request::Go { address } => reply(go::work(session, address), WORK_DONE, buffer),
+        Request::WriteOptions => {
+            write_options::work(flash, nvr, frame::data_of(message));
+            reply(session, WORK_DONE, buffer)
+        }
+        Request::ReadOptions => reply_with(session, WORK_DONE, read_options::work(nvr), buffer),
+        Request::HeartBeat => reply(session, WORK_DONE, buffer),
+        // The checks let none of these through.
+        Request::Misshapen => reply(session, WRONG_SHAPE, buffer),
+    }
+}

@@ -1,0 +1,161 @@
+// What a Talking device reads in a message: the frame's command as one of the ten requests, and the fields in its data.
+use crate::Request;
+use crate::replies::CRC_START;
+use frame::Reading;
+ghost use mathlib.Core.Path.{_≡_};
+ghost use Prim.Native.Nat.{_+_, _*_, _≤_, _<_};
+ghost use lib.ListN.{drop, getD, length};
+ghost use Rattle.frame.specs.Frame.{longest, wordAt};
+ghost use Rattle.tm32.specs.Numbers.{longAt};
+ghost use Rattle.tm32.specs.Request.{exactly as exactlyIs, requestIn, requestOf, writeIn};
+
+// How many option bytes there are.
+const OPTIONS_LENGTH: usize = 22;
+
+// How much of a write's data is not bytes to write: the readback flag and the address.
+const WRITE_HEAD: usize = 5;
+
+// What a message asks for. A message that is no sound frame asks for nothing.
+pub(crate) fn request_in(message: &[u8]) -> Request
+    ensures { λ r. ⌜ r ≡ requestIn (now (message .entry)) ⌝ }
+{
+    match frame::read(CRC_START, message) {
+        Reading::Sound { second, length: _ } => request_of(second, frame::data_of(message)),
+        Reading::Spoiled { place: _ } => Request::Misshapen,
+    }
+}
+
+// The ten commands, and the data that each takes.
+fn request_of(command: u8, payload: &[u8]) -> Request
+    requires { ⌜ length (now payload) ≤ longest ⌝ }
+    ensures { λ r. ⌜ r ≡ requestOf command (now (payload .entry)) ⌝ }
+{
+    match command {
+        0x00 => exactly(
+            1,
+            payload,
+            Request::Pps {
+                code: byte_at(payload, 0),
+            },
+        ),
+        0x01 => exactly(0, payload, Request::Get),
+        0x02..=0x10 => Request::Misshapen,
+        0x11 => exactly(
+            6,
+            payload,
+            Request::Read {
+                address: long_at(payload, 0),
+                count: word_at(payload, 4) as u32,
+            },
+        ),
+        0x12 => write_in(payload),
+        0x13 => exactly(
+            10,
+            payload,
+            Request::MemoryCrc {
+                address: long_at(payload, 0),
+                count: long_at(payload, 4),
+                crc: word_at(payload, 8),
+            },
+        ),
+        0x14 => exactly(
+            4,
+            payload,
+            Request::Erase {
+                first: word_at(payload, 0) as u32,
+                count: word_at(payload, 2) as u32,
+            },
+        ),
+        0x15..=0x20 => Request::Misshapen,
+        0x21 => exactly(
+            4,
+            payload,
+            Request::Go {
+                address: long_at(payload, 0),
+            },
+        ),
+        0x22..=0x30 => Request::Misshapen,
+        0x31 => exactly(OPTIONS_LENGTH, payload, Request::WriteOptions),
+        0x32 => exactly(0, payload, Request::ReadOptions),
+        0x33..=0x40 => Request::Misshapen,
+        0x41 => exactly(0, payload, Request::HeartBeat),
+        0x42..=0xFF => Request::Misshapen,
+    }
+}
+
+// A request whose data must be just so long.
+fn exactly(count: usize, payload: &[u8], request: Request) -> Request
+    ensures { λ r. ⌜ r ≡ exactlyIs count (now (payload .entry)) request ⌝ }
+{
+    if payload.len() == count {
+        return request;
+    }
+    Request::Misshapen
+}
+
+// Write: all data behind the flag and the address are bytes to write.
+fn write_in(payload: &[u8]) -> Request
+    requires { ⌜ length (now payload) ≤ longest ⌝ }
+    ensures { λ r. ⌜ r ≡ writeIn (now (payload .entry)) ⌝ }
+{
+    let length = payload.len();
+    if length < WRITE_HEAD {
+        return Request::Misshapen;
+    }
+    let flag = byte_at(payload, 0);
+    if 1 < flag {
+        return Request::Misshapen;
+    }
+    Request::Write {
+        flag,
+        address: long_at(payload, 1),
+        count: (length - WRITE_HEAD) as u32,
+    }
+}
+
+// The bytes to write, in the data of a write.
+pub(crate) fn bytes_to_write(payload: &[u8]) -> &[u8]
+    requires { ⌜ 5 ≤ length (now payload) ⌝ }
+    ensures { λ r. ⌜ now r ≡ drop 5 (now (payload .entry)) ⌝ }
+{
+    &payload[WRITE_HEAD..]
+}
+
+// The number in the four bytes from a place on.
+fn long_at(bytes: &[u8], place: usize) -> u32
+    requires { ⌜ place < 8 ⌝ }
+    ensures { λ r. ⌜ r ≡ longAt (now (bytes .entry)) place ⌝ }
+{
+    long(word_at(bytes, place), word_at(bytes, place + 2))
+}
+
+// The number in the two bytes from a place on.
+fn word_at(bytes: &[u8], place: usize) -> u16
+    requires { ⌜ place < 16 ⌝ }
+    ensures { λ r. ⌜ r ≡ wordAt (now (bytes .entry)) place ⌝ }
+{
+    word(byte_at(bytes, place), byte_at(bytes, place + 1))
+}
+
+// The byte at a place, and 0 where there is none.
+fn byte_at(bytes: &[u8], place: usize) -> u8
+    ensures { λ r. ⌜ r ≡ getD (now (bytes .entry)) place 0 ⌝ }
+{
+    if place < bytes.len() {
+        return bytes[place];
+    }
+    0
+}
+
+// Two halves of 16 bits as a number of 32, and two bytes as one of 16.
+fn long(low: u16, high: u16) -> u32
+    ensures { λ r. ⌜ r ≡ low + 65536 * high ⌝ }
+{
+    (low as u32) + 65536 * (high as u32)
+}
+
+fn word(low: u8, high: u8) -> u16
+    ensures { λ r. ⌜ r ≡ low + 256 * high ⌝ }
+{
+    (low as u16) + 256 * (high as u16)
+}

@@ -1,0 +1,66 @@
+// Write: flash loses bits, RAM and NVR take the bytes as they are.
+use crate::map::FLASH_START;
+use crate::map::NVR_START;
+use crate::map::RAM_START;
+use crate::map::in_flash;
+use crate::map::in_ram;
+use crate::results::READBACK_DIFFERS;
+use crate::results::WORK_DONE;
+use memory::Programmed;
+ghost use mathlib.Core.Bool.{cond, not, true, _&&_};
+ghost use mathlib.Core.Path.{_≡_};
+ghost use Prim.Native.Nat.{_+_, _≤_};
+ghost use lib.Dec.{eqb};
+ghost use lib.ListN.{length};
+ghost use Rattle.memory.specs.Stores.{kept, replaced, same};
+ghost use Rattle.tm32.specs.Checks.{mostBytes};
+ghost use Rattle.tm32.specs.Device.{memoryOf};
+ghost use Rattle.tm32.specs.Map.{flashLength, inUserRegion, nvrLength, ramLength};
+ghost use Rattle.tm32.specs.Results.{readbackDiffers, workDone};
+ghost use Rattle.tm32.specs.Work.{readback, written};
+
+// Writes bytes, and gives the result. RAM and NVR always read back as they were sent.
+pub(crate) fn work(
+    flash: &mut [u8],
+    ram: &mut [u8],
+    nvr: &mut [u8],
+    flag: u8,
+    address: u32,
+    bytes: &[u8],
+) -> u8
+    requires { ⌜ length (now flash) ≡ flashLength ⌝ }
+    requires { ⌜ length (now ram) ≡ ramLength ⌝ }
+    requires { ⌜ length (now nvr) ≡ nvrLength ⌝ }
+    requires { ⌜ length (now bytes) ≤ mostBytes ⌝ }
+    requires { ⌜ inUserRegion address (length (now bytes)) ≡ true ⌝ }
+    ensures { λ r. ⌜ (memoryOf (now (flash .exit)) (now (ram .exit)) (now (nvr .exit)) ≡ written (memoryOf (now (flash .entry)) (now (ram .entry)) (now (nvr .entry))) address (now (bytes .entry))) × (r ≡ readback flag address (now (bytes .entry)) (written (memoryOf (now (flash .entry)) (now (ram .entry)) (now (nvr .entry))) address (now (bytes .entry)))) ⌝ }
+{
+    let count = bytes.len() as u32;
+    if in_flash(address, count) {
+        return program(flash, (address - FLASH_START) as usize, flag, bytes);
+    }
+    if in_ram(address, count) {
+        memory::store(ram, (address - RAM_START) as usize, bytes);
+        return WORK_DONE;
+    }
+    memory::store(nvr, (address - NVR_START) as usize, bytes);
+    WORK_DONE
+}
+
+// Programs bytes of the flash. Where a byte is not as it was sent, the result says so to a host that asked with flag 1.
+fn program(flash: &mut [u8], place: usize, flag: u8, bytes: &[u8]) -> u8
+    requires { ⌜ place + length (now bytes) ≤ length (now flash) ⌝ }
+    ensures { λ r. ⌜ (now (flash .exit) ≡ replaced (now (flash .entry)) place (kept (now (flash .entry)) place (now (bytes .entry)))) × (r ≡ cond (eqb flag 1 && not (same (kept (now (flash .entry)) place (now (bytes .entry))) (now (bytes .entry)))) readbackDiffers workDone) ⌝ }
+{
+    match memory::program(flash, place, bytes) {
+        Programmed::AsGiven => WORK_DONE,
+        Programmed::Differs => {
+            if flag == 1 {
+                return READBACK_DIFFERS;
+            }
+            WORK_DONE
+        }
+        // The bytes lie in the flash, so this does not come.
+        Programmed::Outside => WORK_DONE,
+    }
+}
