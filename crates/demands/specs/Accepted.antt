@@ -11,10 +11,10 @@ use Rattle.frame.specs.Frame.{dataOf}
 use Rattle.memory.specs.Ranges.{within}
 use Rattle.memory.specs.Stores.{kept, replaced, same}
 use Rattle.memory.proofs.Laws.{region-holds}
-use Rattle.tm32.specs.After.{Telling, callChecks, replied, replyRoom, tell}
+use Rattle.tm32.specs.After.{Lent, Telling, callChecks, replied, tell}
 use Rattle.tm32.specs.Checks.{noneFails}
 use Rattle.tm32.specs.Device.{Device, Memory, withFlash, withNvr, withRam}
-use Rattle.tm32.specs.Map.{flashLength, flashStart, inFlash, inRam, inUserNvr, inUserRegion, nvrLength, nvrStart, ramLength, ramStart, userNvrLength, userNvrStart}
+use Rattle.tm32.specs.Map.{flashStart, inFlash, inRam, inUserNvr, inUserRegion, nvrLength, nvrStart, ramStart, userNvrLength, userNvrStart}
 use Rattle.tm32.specs.Request.{requestIn}
 use Rattle.tm32.specs.Respond.{Answered, answered, greet, hello, refuse, replyTo, respond, respondIn}
 use Rattle.tm32.specs.Results.{noHandshake}
@@ -34,13 +34,6 @@ pub data Heard (settings : Settings) (device : Device) (message : List ℕ) : An
   turnedAway : (number : ℕ) → FirstFailing (requestChecks device (requestIn message)) number → Heard settings device message (refuse device number)
   workedOn : noneFails (requestChecks device (requestIn message)) ≡ true → Heard settings device message (replyTo (work settings device (dataOf message) (requestIn message)))
 
--- That the memory has the lengths of the map, and that there is room for every reply.
-pub record Lent (device : Device) (room : ℕ) : Type 0 where
-  pub flash : length (device .memory .flash) ≡ flashLength
-  pub ram : length (device .memory .ram) ≡ ramLength
-  pub nvr : length (device .memory .nvr) ≡ nvrLength
-  pub space : replyRoom ≤ room
-
 -- Where a write of some bytes goes: into flash, where bits can only be cleared, into RAM, or into the user's NVR.
 pub data Stored (memory : Memory) (address : ℕ) (bytes : List ℕ) : Memory → Type 0 where
   intoFlash : inFlash address (length bytes) ≡ true
@@ -50,7 +43,7 @@ pub data Stored (memory : Memory) (address : ℕ) (bytes : List ℕ) : Memory �
 
 -- All that is known of a request whose work is done.
 pub record Known (device : Device) (room : ℕ) (payload : List ℕ) (request : Request) : Type 0 where
-  pub sized : Lent device room
+  pub sized : Lent (device .memory) room
   pub shape : Shaped payload request
   pub pass : noneFails (requestChecks device request) ≡ true
 
@@ -77,7 +70,7 @@ module _ (settings : Settings) (device : Device) (message : List ℕ) where
 -- ---- what the checks say where they pass
 
 -- the lengths of a call that is heard
-pub lent : (device : Device) (room : ℕ) → noneFails (callChecks device room) ≡ true → Lent device room
+pub lent : (device : Device) (room : ℕ) → noneFails (callChecks device room) ≡ true → Lent (device .memory) room
 unfolding callChecks
 lent device room pass =
     let flash = next _ _ pass in
@@ -152,7 +145,7 @@ module _ (settings : Settings) (device : Device) (message : List ℕ) (room : �
 
 module _ (settings : Settings) (device : Device) (message : List ℕ) (room : ℕ) (P : List ℕ → Type 0) where
   -- by the way of the call
-  of-call : (outcome : Telling) (bytes : List ℕ) → Called settings device message room outcome → (Lent device room → P (respond settings device message .reply))
+  of-call : (outcome : Telling) (bytes : List ℕ) → Called settings device message room outcome → (Lent (device .memory) room → P (respond settings device message .reply))
       → outcome .told ≡ replied bytes → P bytes
   of-call outcome bytes (heard pass) answers is =
       let same : respond settings device message .reply ≡ bytes = cc in
@@ -162,5 +155,5 @@ module _ (settings : Settings) (device : Device) (message : List ℕ) (room : �
       absurd (true≢false never)
 
   -- what holds of the answer to a message holds of the reply that is told
-  pub reply-told : (bytes : List ℕ) → (Lent device room → P (respond settings device message .reply)) → tell settings device message room .told ≡ replied bytes → P bytes
+  pub reply-told : (bytes : List ℕ) → (Lent (device .memory) room → P (respond settings device message .reply)) → tell settings device message room .told ≡ replied bytes → P bytes
   reply-told bytes answers is = of-call (tell settings device message room) bytes (called settings device message room) answers is

@@ -10,7 +10,7 @@ use Rattle.memory.specs.Stores.{kept, masked, part, replaced, same}
 use Rattle.tm32.specs.Checks.{checks, flashPages, protections, readChecks, verdict, writeChecks}
 use Rattle.tm32.specs.Device.{bytesAt, sessionOf, start, withSession}
 use Rattle.tm32.specs.Fresh.{freshDevice, freshFlash, freshNvr, freshOptions, freshRam, freshSettings}
-use Rattle.tm32.specs.Map.{inReadRegion, inGoRegion, inUserRegion}
+use Rattle.tm32.specs.Map.{inReadRegion, inUserRegion}
 use Rattle.tm32.specs.Numbers.{fromOneTo, long, longAt}
 use Rattle.tm32.specs.Options.{inEither, optionBytes, rdpOn}
 use Rattle.tm32.specs.Request.{exactly, readAs, requestIn, requestOf, writeIn}
@@ -78,5 +78,5 @@ boundCases = otherCommands ++ moreBounds
 
 -- All of them hold.
 all-hold : computed boundCases ≡ expected boundCases
-unfolding computed expected prepared hex little message halfwords options boundCases otherCommands moreBounds respond respondIn greet serve replyTo verdictOn refuse frame covered word crc byteDone bitsDone bitDone shifted polynomial reading wordAt dataOf requestIn readAs requestOf writeIn exactly longAt checks verdict protections readChecks writeChecks flashPages somePage someFrom covers touched within inReadRegion inUserRegion inGoRegion bytesAt part replaced masked kept same rdpOn inEither optionBytes erased wipes wiped withOptions work written readback compared information long commandWord toldCommands freshDevice freshFlash freshRam freshNvr freshOptions freshSettings fromOneTo
+unfolding computed expected prepared hex little message halfwords options boundCases otherCommands moreBounds respond respondIn greet serve replyTo verdictOn refuse frame covered word crc byteDone bitsDone bitDone shifted polynomial reading wordAt dataOf requestIn readAs requestOf writeIn exactly longAt checks verdict protections readChecks writeChecks flashPages somePage someFrom covers touched within inReadRegion inUserRegion bytesAt part replaced masked kept same rdpOn inEither optionBytes erased wipes wiped withOptions work written readback compared information long commandWord toldCommands freshDevice freshFlash freshRam freshNvr freshOptions freshSettings fromOneTo
 all-hold = refl

@@ -12,7 +12,7 @@ use Rattle.frame.specs.Frame.{dataOf, frame, word}
 use Rattle.frame.proofs.Laws.{data-bytes, frame-bytes, joined-bytes, last-bytes, more-bytes, none-bytes, word-bytes}
 use Rattle.memory.specs.Stores.{kept}
 use Rattle.memory.proofs.Laws.{AllBytes, kept-bytes, length-kept, part-bytes, replaced-bytes, replicate-bytes}
-use Rattle.tm32.specs.After.{replied, tell}
+use Rattle.tm32.specs.After.{Lent, replied, tell}
 use Rattle.tm32.specs.Device.{Device, Memory, bytesAt, crcStart}
 use Rattle.tm32.specs.Map.{blank, flashLength, flashStart, inFlash, inRam, nvrStart, optionsLength, optionsStart, pageCount, pageSize, ramLength, ramStart}
 use Rattle.tm32.specs.Numbers.{long}
@@ -26,7 +26,7 @@ use Rattle.tm32.specs.declared.Request.the-variants.{Pps, Get, Read, Write, Mem
 use Rattle.tm32.specs.declared.Settings.{Settings}
 use Rattle.tm32.proofs.Accepted.{Shaped, erase-accepted, of-both, write-accepted}
 use Rattle.tm32.proofs.Written.{pages-fit, wiped-length}
-use Rattle.demands.specs.Accepted.{Heard, Known, Lent, Stored, fits, greeted, heard-so, intoFlash, intoNvr, intoRam, memory-after, nvr-fits, reply-told, silent, stored-so, turnedAway, unshaken, workedOn}
+use Rattle.demands.specs.Accepted.{Heard, Known, Stored, fits, greeted, heard-so, intoFlash, intoNvr, intoRam, memory-after, nvr-fits, reply-told, silent, stored-so, turnedAway, unshaken, workedOn}
 use Rattle.demands.specs.FirstFailing.{passAll}
 use Rattle.demands.specs.Refused.{one-of-so}
 use Rattle.demands.specs.Replies.{isResult, refusal-result, results, unshaken-result, work-result}
@@ -70,7 +70,7 @@ wiped-bytes old new (suc page) flash sized inside all =
     of-both AllBytes (wipes old new page)
     (erased-bytes (wiped old new page flash) page 1 (wiped-length old new page flash sized (omega arith)) (omega arith) rest) rest
 
-module _ (device : Device) (room : ℕ) (sized : Lent device room) (all : MemoryBytes (device .memory)) where
+module _ (device : Device) (room : ℕ) (sized : Lent (device .memory) room) (all : MemoryBytes (device .memory)) where
   -- a write
   stored-bytes : (address : ℕ) (bytes : List ℕ) (after : Memory) → AllBytes bytes → Stored (device .memory) address bytes after → MemoryBytes after
   stored-bytes address bytes after given (intoFlash inside) =

@@ -8,7 +8,7 @@ use lib.ListN.{length, drop}
 use Rattle.frame.specs.Frame.{dataOf}
 use Rattle.memory.specs.Stores.{kept}
 use Rattle.memory.proofs.Laws.{length-kept, length-replaced}
-use Rattle.tm32.specs.After.{tell}
+use Rattle.tm32.specs.After.{Lent, tell}
 use Rattle.tm32.specs.Device.{Device, Memory}
 use Rattle.tm32.specs.Map.{flashLength, flashStart, nvrStart, optionsLength, optionsStart, pageCount, ramLength, ramStart}
 use Rattle.tm32.specs.Options.{optionBytes}
@@ -19,7 +19,7 @@ use Rattle.tm32.specs.declared.Request.the-variants.{Pps, Get, Read, Write, Mem
 use Rattle.tm32.specs.declared.Settings.{Settings}
 use Rattle.tm32.proofs.Accepted.{Shaped, erase-accepted, write-accepted}
 use Rattle.tm32.proofs.Written.{erased-length, wiped-length}
-use Rattle.demands.specs.Accepted.{Known, Lent, Stored, fits, intoFlash, intoNvr, intoRam, memory-after, nvr-fits, stored-so}
+use Rattle.demands.specs.Accepted.{Known, Stored, fits, intoFlash, intoNvr, intoRam, memory-after, nvr-fits, stored-so}
 
 -- That two memories are as long as one another, region by region.
 pub record SameLengths (old new : Memory) : Type 0 where
@@ -33,7 +33,7 @@ unchanged memory = record { flash = refl; ram = refl; nvr = refl }
 
 -- ---- the work of each command
 
-module _ (device : Device) (room : ℕ) (sized : Lent device room) where
+module _ (device : Device) (room : ℕ) (sized : Lent (device .memory) room) where
   -- a write
   by-region : (address : ℕ) (bytes : List ℕ) (after : Memory) → Stored (device .memory) address bytes after → SameLengths (device .memory) after
   by-region address bytes after (intoFlash inside) =

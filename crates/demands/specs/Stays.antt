@@ -13,7 +13,7 @@ use Rattle.memory.specs.Ranges.{within}
 use Rattle.memory.specs.declared.PageRun.{PageRun}
 use Rattle.memory.specs.Stores.{kept, part, replaced}
 use Rattle.memory.proofs.Laws.{in-region, length-kept, part-at, region-holds, replaced-before, replaced-behind, some-page, touched-page}
-use Rattle.tm32.specs.After.{tell}
+use Rattle.tm32.specs.After.{Lent, tell}
 use Rattle.tm32.specs.Checks.{flashPages, noneFails}
 use Rattle.tm32.specs.Device.{Device, Memory, bytesAt}
 use Rattle.tm32.specs.Map.{blank, flashLength, flashStart, inFlash, inNvr, inRam, inReadRegion, inUserNvr, inUserRegion, nvrLength, nvrStart, optionsLength, optionsStart, pageCount, pageSize, ramLength, ramStart, userNvrLength, userNvrStart}
@@ -25,7 +25,7 @@ use Rattle.tm32.specs.declared.Request.the-variants.{Pps, Get, Read, Write, Mem
 use Rattle.tm32.specs.declared.Settings.{Settings}
 use Rattle.tm32.proofs.Accepted.{EraseAccepted, Shaped, WriteAccepted, erase-accepted, write-accepted}
 use Rattle.tm32.proofs.Written.{pages-fit}
-use Rattle.demands.specs.Accepted.{Known, Lent, Stored, fits, intoFlash, intoNvr, intoRam, memory-after, nvr-fits, stored-so}
+use Rattle.demands.specs.Accepted.{Known, Stored, fits, intoFlash, intoNvr, intoRam, memory-after, nvr-fits, stored-so}
 use Rattle.demands.specs.FirstFailing.{requestChecks}
 
 -- The byte at an address.
@@ -131,7 +131,7 @@ unfolding wiped wipes
 not-wiped old new zero flash spared = refl
 not-wiped old new (suc page) flash spared = rw spared (not-wiped old new page flash spared)
 
-module _ (device : Device) (room : ℕ) (sized : Lent device room) (address : ℕ) where
+module _ (device : Device) (room : ℕ) (sized : Lent (device .memory) room) (address : ℕ) where
   -- a write
   write-stays : (from : ℕ) (bytes : List ℕ) (after : Memory) → within from (length bytes) address 1 ≡ false → Stored (device .memory) from bytes after
       → SameByte (device .memory) after address

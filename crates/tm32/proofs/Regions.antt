@@ -6,7 +6,7 @@ use native.Mathlib.Omega.{arith}
 use borrow.Author.Tests.{le-leb, lt-leb}
 use Rattle.memory.proofs.Laws.{in-region, region-holds}
 use Rattle.memory.specs.Ranges.{within}
-use Rattle.tm32.specs.Map.{inFlash, inNvr, inRam, inReadRegion, inUserNvr, inUserRegion}
+use Rattle.tm32.specs.Map.{inFlash, inFlashOrRam, inNvr, inRam, inReadRegion, inUserNvr, inUserRegion}
 
 -- a range in a region lies in a memory of the region's length
 pub held : {size long : ℕ} (start address count : ℕ) → long ≡ size → within start size address count ≡ true → within start long address count ≡ true
@@ -24,16 +24,14 @@ behind-region start size address count behind =
     let to : start + size < address + count = omega arith in
     simp (le-leb _ _ from, lt-leb _ _ to)
 
--- of three tests, where the third fails one of the first two holds, and where the third grows they all do
-first-two : (one other : Bool) {third : Bool} → one || other || third ≡ true → third ≡ false → one || other ≡ true
-first-two true other some fails = refl
-first-two false true some fails = refl
-first-two false false some fails = sym fails ∙ some
+-- of two tests, where the second fails the first holds, and where the second grows one of the two does still
+first-left : (one : Bool) {other : Bool} → one || other ≡ true → other ≡ false → one ≡ true
+first-left true some fails = refl
+first-left false some fails = sym fails ∙ some
 
-third-grows : (one other : Bool) {third wider : Bool} → (third ≡ true → wider ≡ true) → one || other || third ≡ true → one || other || wider ≡ true
-third-grows true other grows some = refl
-third-grows false true grows some = refl
-third-grows false false grows some = grows some
+second-grows : (one : Bool) {other wider : Bool} → (other ≡ true → wider ≡ true) → one || other ≡ true → one || wider ≡ true
+second-grows true grows some = refl
+second-grows false grows some = grows some
 
 module _ (address count : ℕ) where
   -- the NVR lies behind the flash and before the RAM
@@ -43,18 +41,18 @@ module _ (address count : ℕ) where
       (behind-region _ _ _ _ (omega arith), before-region _ _ _ _ (omega arith))
 
   -- a range that Read may name is in flash or RAM where it is not in the NVR
-  pub not-in-nvr : inReadRegion address count ≡ true → inNvr address count ≡ false → inFlash address count || inRam address count ≡ true
+  pub not-in-nvr : inReadRegion address count ≡ true → inNvr address count ≡ false → inFlashOrRam address count ≡ true
   unfolding inReadRegion
-  not-in-nvr inside outside = first-two (inFlash address count) (inRam address count) inside outside
+  not-in-nvr inside outside = first-left (inFlashOrRam address count) inside outside
 
   -- and in RAM where it is not in flash either
-  pub not-in-flash : inFlash address count || inRam address count ≡ true → inFlash address count ≡ false → inRam address count ≡ true
+  pub not-in-flash : inFlashOrRam address count ≡ true → inFlash address count ≡ false → inRam address count ≡ true
   not-in-flash inside outside = sym (ap (λ (test : Bool). test || inRam address count) outside) ∙ inside
 
   -- what Memory CRC may name, Read may: NVR5 and NVR6 are a part of the NVR
   pub user-is-read : inUserRegion address count ≡ true → inReadRegion address count ≡ true
   unfolding inUserRegion inReadRegion
-  user-is-read inside = third-grows (inFlash address count) (inRam address count) wider inside where
+  user-is-read inside = second-grows (inFlashOrRam address count) wider inside where
     wider : inUserNvr address count ≡ true → inNvr address count ≡ true
     wider in-user =
         let ends = region-holds _ _ _ _ in-user in

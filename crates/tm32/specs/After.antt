@@ -1,5 +1,5 @@
 -- Document 01, "When nothing is done": what is tested of a call before anything else, and where the reply is laid.
-use Prim.Native.Nat.{ℕ, _+_}
+use Prim.Native.Nat.{ℕ, _+_, _≤_}
 use mathlib.Core.Path.{_≡_}
 use mathlib.Core.Bool.{cond, not}
 use mathlib.Core.List.{List, [], _∷_}
@@ -7,7 +7,7 @@ use lib.Dec.{eqb, ltb}
 use lib.ListN.{length}
 use Rattle.frame.specs.Frame.{laid, overhead}
 use Rattle.tm32.specs.Checks.{Check, check, mostBytes, verdict}
-use Rattle.tm32.specs.Device.{Device, deviceOf, memoryOf}
+use Rattle.tm32.specs.Device.{Device, Memory, deviceOf, memoryOf}
 use Rattle.tm32.specs.Map.{flashLength, nvrLength, ramLength}
 use Rattle.tm32.specs.Rates.{isRate}
 use Rattle.tm32.specs.Respond.{respond, Answered}
@@ -80,6 +80,13 @@ after settings device message buffer =
 -- What the code hands back: the session, and the answer beside it.
 abbrev pub turnOf : Session → Answer → Turn
 turnOf session answer = record { session = session; answer = answer }
+
+-- That what is lent has the lengths of the map, and room for any reply.
+pub record Lent (memory : Memory) (room : ℕ) : Type 0 where
+  pub flash : length (memory .flash) ≡ flashLength
+  pub ram : length (memory .ram) ≡ ramLength
+  pub nvr : length (memory .nvr) ≡ nvrLength
+  pub space : replyRoom ≤ room
 
 -- The same of what the code hands back, beside the memory and the buffer that were lent to it.
 abbrev pub leaves : Turn → List ℕ → List ℕ → List ℕ → List ℕ → After

@@ -49,7 +49,7 @@ optionsLength = 22
 abbrev pub blank : ℕ
 blank = 0xFF
 
--- Whether so many bytes from an address on all lie in the one region.
+-- Whether so many bytes from an address on all lie in the one region, or in one of the first two.
 abbrev pub inFlash : ℕ → ℕ → Bool
 inFlash address count = within flashStart flashLength address count
 
@@ -62,14 +62,17 @@ inNvr address count = within nvrStart nvrLength address count
 abbrev pub inUserNvr : ℕ → ℕ → Bool
 inUserNvr address count = within userNvrStart userNvrLength address count
 
+abbrev pub inFlashOrRam : ℕ → ℕ → Bool
+inFlashOrRam address count = inFlash address count || inRam address count
+
 -- The ranges that Read may name. Whether they are protected is asked later.
 unfoldable pub inReadRegion : ℕ → ℕ → Bool
-inReadRegion address count = inFlash address count || inRam address count || inNvr address count
+inReadRegion address count = inFlashOrRam address count || inNvr address count
 
 -- The ranges that Write and Memory CRC may name.
 unfoldable pub inUserRegion : ℕ → ℕ → Bool
-inUserRegion address count = inFlash address count || inRam address count || inUserNvr address count
+inUserRegion address count = inFlashOrRam address count || inUserNvr address count
 
 -- Where Go may jump: a stack pointer and a reset vector must fit in flash or RAM from there on. What they are does not matter.
-unfoldable pub inGoRegion : ℕ → Bool
-inGoRegion address = inFlash address 8 || inRam address 8
+abbrev pub inGoRegion : ℕ → Bool
+inGoRegion address = inFlashOrRam address 8

@@ -30,9 +30,8 @@ ghost use Prim.Native.Nat.{_≤_};
 ghost use lib.ListN.{length};
 ghost use Rattle.frame.specs.Frame.{dataOf};
 ghost use Rattle.memory.specs.Stores.{same};
-ghost use Rattle.tm32.specs.After.{Laid, after, layAnswer, leaves, replyRoom, turnOf};
+ghost use Rattle.tm32.specs.After.{Laid, Lent, after, layAnswer, leaves, replyRoom, turnOf};
 ghost use Rattle.tm32.specs.Device.{deviceOf, inState, memoryOf};
-ghost use Rattle.tm32.specs.Map.{flashLength, nvrLength, ramLength};
 ghost use Rattle.tm32.specs.Request.{requestIn};
 ghost use Rattle.tm32.specs.Respond.{hello, helloBack, replyTo, respond as respondIs, serve as serveIs, verdictOn};
 ghost use Rattle.tm32.specs.Results.{workDone};
@@ -109,10 +108,7 @@ fn respond(
     nvr: &mut [u8],
     buffer: &mut [u8],
 ) -> Turn
-    requires { ⌜ length (now flash) ≡ flashLength ⌝ }
-    requires { ⌜ length (now ram) ≡ ramLength ⌝ }
-    requires { ⌜ length (now nvr) ≡ nvrLength ⌝ }
-    requires { ⌜ replyRoom ≤ length (now buffer) ⌝ }
+    requires { ⌜ Lent (memoryOf (now flash) (now ram) (now nvr)) (length (now buffer)) ⌝ }
     ensures { λ r. ⌜ leaves r (now (flash .exit)) (now (ram .exit)) (now (nvr .exit)) (now (buffer .exit)) ≡ layAnswer (now (buffer .entry)) (respondIs settings (deviceOf session (memoryOf (now (flash .entry)) (now (ram .entry)) (now (nvr .entry)))) (now (message .entry))) ⌝ }
 {
     if message.len() == 0 {
@@ -168,10 +164,7 @@ fn serve(
     nvr: &mut [u8],
     buffer: &mut [u8],
 ) -> Turn
-    requires { ⌜ length (now flash) ≡ flashLength ⌝ }
-    requires { ⌜ length (now ram) ≡ ramLength ⌝ }
-    requires { ⌜ length (now nvr) ≡ nvrLength ⌝ }
-    requires { ⌜ replyRoom ≤ length (now buffer) ⌝ }
+    requires { ⌜ Lent (memoryOf (now flash) (now ram) (now nvr)) (length (now buffer)) ⌝ }
     ensures { λ r. ⌜ leaves r (now (flash .exit)) (now (ram .exit)) (now (nvr .exit)) (now (buffer .exit)) ≡ layAnswer (now (buffer .entry)) (serveIs settings (deviceOf session (memoryOf (now (flash .entry)) (now (ram .entry)) (now (nvr .entry)))) (dataOf (now (message .entry))) (requestIn (now (message .entry)))) ⌝ }
 {
     let request = request_in(message);
@@ -194,10 +187,7 @@ fn work(
     nvr: &mut [u8],
     buffer: &mut [u8],
 ) -> Turn
-    requires { ⌜ length (now flash) ≡ flashLength ⌝ }
-    requires { ⌜ length (now ram) ≡ ramLength ⌝ }
-    requires { ⌜ length (now nvr) ≡ nvrLength ⌝ }
-    requires { ⌜ replyRoom ≤ length (now buffer) ⌝ }
+    requires { ⌜ Lent (memoryOf (now flash) (now ram) (now nvr)) (length (now buffer)) ⌝ }
     requires { ⌜ request ≡ requestIn (now message) ⌝ }
     requires { ⌜ verdictOn (deviceOf session (memoryOf (now flash) (now ram) (now nvr))) request ≡ workDone ⌝ }
     ensures { λ r. ⌜ leaves r (now (flash .exit)) (now (ram .exit)) (now (nvr .exit)) (now (buffer .exit)) ≡ layAnswer (now (buffer .entry)) (replyTo (workIs settings (deviceOf session (memoryOf (now (flash .entry)) (now (ram .entry)) (now (nvr .entry)))) (dataOf (now (message .entry))) request)) ⌝ }

@@ -1,6 +1,6 @@
 // Where the memory lies, and which ranges a command may name.
 ghost use mathlib.Core.Path.{_≡_};
-ghost use Rattle.tm32.specs.Map.{inFlash, inGoRegion, inNvr, inRam, inReadRegion, inUserNvr, inUserRegion};
+ghost use Rattle.tm32.specs.Map.{inFlash, inFlashOrRam, inGoRegion, inNvr, inRam, inReadRegion, inUserRegion};
 
 // How long a page of the flash is, and how many there are.
 pub(crate) const PAGE_SIZE: u32 = 1024;
@@ -35,6 +35,7 @@ pub(crate) const OPTIONS_END: usize = 0x816;
 // What Go must find room for: a stack pointer and a reset vector.
 const VECTORS_LENGTH: u32 = 8;
 
+// Whether a range lies in the one region, or in one of the first two.
 pub(crate) fn in_flash(address: u32, count: u32) -> bool
     ensures { λ r. ⌜ r ≡ inFlash address count ⌝ }
 {
@@ -53,14 +54,20 @@ pub(crate) fn in_nvr(address: u32, count: u32) -> bool
     memory::within(NVR_START, NVR_LENGTH, address, count)
 }
 
-// Whether a range is one that Read may name.
-pub(crate) fn in_read_region(address: u32, count: u32) -> bool
-    ensures { λ r. ⌜ r ≡ inReadRegion address count ⌝ }
+pub(crate) fn in_flash_or_ram(address: u32, count: u32) -> bool
+    ensures { λ r. ⌜ r ≡ inFlashOrRam address count ⌝ }
 {
     if in_flash(address, count) {
         return true;
     }
-    if in_ram(address, count) {
+    in_ram(address, count)
+}
+
+// Whether a range is one that Read may name.
+pub(crate) fn in_read_region(address: u32, count: u32) -> bool
+    ensures { λ r. ⌜ r ≡ inReadRegion address count ⌝ }
+{
+    if in_flash_or_ram(address, count) {
         return true;
     }
     in_nvr(address, count)
@@ -70,10 +77,7 @@ pub(crate) fn in_read_region(address: u32, count: u32) -> bool
 pub(crate) fn in_user_region(address: u32, count: u32) -> bool
     ensures { λ r. ⌜ r ≡ inUserRegion address count ⌝ }
 {
-    if in_flash(address, count) {
-        return true;
-    }
-    if in_ram(address, count) {
+    if in_flash_or_ram(address, count) {
         return true;
     }
     memory::within(USER_NVR_START, USER_NVR_LENGTH, address, count)
@@ -83,8 +87,5 @@ pub(crate) fn in_user_region(address: u32, count: u32) -> bool
 pub(crate) fn in_go_region(address: u32) -> bool
     ensures { λ r. ⌜ r ≡ inGoRegion address ⌝ }
 {
-    if in_flash(address, VECTORS_LENGTH) {
-        return true;
-    }
-    in_ram(address, VECTORS_LENGTH)
+    in_flash_or_ram(address, VECTORS_LENGTH)
 }

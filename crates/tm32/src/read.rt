@@ -4,14 +4,14 @@ use crate::map::NVR_START;
 use crate::map::RAM_START;
 use crate::map::in_flash;
 use crate::map::in_nvr;
-ghost use mathlib.Core.Bool.{cond, true, _||_};
+ghost use mathlib.Core.Bool.{cond, true};
 ghost use mathlib.Core.Path.{_≡_};
 ghost use Prim.Native.Nat.{_-_};
 ghost use lib.ListN.{length};
 ghost use Rattle.memory.specs.Ranges.{within};
 ghost use Rattle.memory.specs.Stores.{part};
 ghost use Rattle.tm32.specs.Device.{bytesAt, memoryOf};
-ghost use Rattle.tm32.specs.Map.{flashLength, flashStart, inFlash, inRam, inReadRegion, nvrLength, ramLength, ramStart};
+ghost use Rattle.tm32.specs.Map.{flashLength, flashStart, inFlash, inFlashOrRam, inReadRegion, nvrLength, ramLength, ramStart};
 
 // The bytes of a range in flash, RAM or NVR.
 pub(crate) fn work<'a>(
@@ -37,7 +37,7 @@ pub(crate) fn work<'a>(
 fn picked<'a>(flash: &'a [u8], ram: &'a [u8], address: u32, count: u32) -> &'a [u8]
     requires { ⌜ length (now flash) ≡ flashLength ⌝ }
     requires { ⌜ length (now ram) ≡ ramLength ⌝ }
-    requires { ⌜ inFlash address count || inRam address count ≡ true ⌝ }
+    requires { ⌜ inFlashOrRam address count ≡ true ⌝ }
     ensures { λ r. ⌜ now r ≡ cond (inFlash address count) (part (now (flash .entry)) (address - flashStart) count) (part (now (ram .entry)) (address - ramStart) count) ⌝ }
 {
     if in_flash(address, count) {

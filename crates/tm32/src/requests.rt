@@ -31,49 +31,15 @@ fn request_of(command: u8, payload: &[u8]) -> Request
     ensures { λ r. ⌜ r ≡ requestOf command (now (payload .entry)) ⌝ }
 {
     match command {
-        0x00 => exactly(
-            1,
-            payload,
-            Request::Pps {
-                code: byte_at(payload, 0),
-            },
-        ),
+        0x00 => pps_in(payload),
         0x01 => exactly(0, payload, Request::Get),
         0x02..=0x10 => Request::Misshapen,
-        0x11 => exactly(
-            6,
-            payload,
-            Request::Read {
-                address: long_at(payload, 0),
-                count: word_at(payload, 4) as u32,
-            },
-        ),
+        0x11 => read_in(payload),
         0x12 => write_in(payload),
-        0x13 => exactly(
-            10,
-            payload,
-            Request::MemoryCrc {
-                address: long_at(payload, 0),
-                count: long_at(payload, 4),
-                crc: word_at(payload, 8),
-            },
-        ),
-        0x14 => exactly(
-            4,
-            payload,
-            Request::Erase {
-                first: word_at(payload, 0) as u32,
-                count: word_at(payload, 2) as u32,
-            },
-        ),
+        0x13 => memory_crc_in(payload),
+        0x14 => erase_in(payload),
         0x15..=0x20 => Request::Misshapen,
-        0x21 => exactly(
-            4,
-            payload,
-            Request::Go {
-                address: long_at(payload, 0),
-            },
-        ),
+        0x21 => go_in(payload),
         0x22..=0x30 => Request::Misshapen,
         0x31 => exactly(OPTIONS_LENGTH, payload, Request::WriteOptions),
         0x32 => exactly(0, payload, Request::ReadOptions),
@@ -81,6 +47,64 @@ fn request_of(command: u8, payload: &[u8]) -> Request
         0x41 => exactly(0, payload, Request::HeartBeat),
         0x42..=0xFF => Request::Misshapen,
     }
+}
+
+// The requests with fields: each field where it stands in the data.
+fn pps_in(payload: &[u8]) -> Request
+    ensures { λ r. ⌜ r ≡ exactlyIs 1 (now (payload .entry)) (Request.Pps (getD (now (payload .entry)) 0 0)) ⌝ }
+{
+    exactly(
+        1,
+        payload,
+        Request::Pps {
+            code: byte_at(payload, 0),
+        },
+    )
+}
+
+fn read_in(payload: &[u8]) -> Request
+    ensures { λ r. ⌜ r ≡ exactlyIs 6 (now (payload .entry)) (Request.Read (longAt (now (payload .entry)) 0) (wordAt (now (payload .entry)) 4)) ⌝ }
+{
+    let address = long_at(payload, 0);
+    let count = word_at(payload, 4) as u32;
+    exactly(6, payload, Request::Read { address, count })
+}
+
+fn memory_crc_in(payload: &[u8]) -> Request
+    ensures { λ r. ⌜ r ≡ exactlyIs 10 (now (payload .entry)) (Request.MemoryCrc (longAt (now (payload .entry)) 0) (longAt (now (payload .entry)) 4) (wordAt (now (payload .entry)) 8)) ⌝ }
+{
+    let address = long_at(payload, 0);
+    let count = long_at(payload, 4);
+    let crc = word_at(payload, 8);
+    exactly(
+        10,
+        payload,
+        Request::MemoryCrc {
+            address,
+            count,
+            crc,
+        },
+    )
+}
+
+fn erase_in(payload: &[u8]) -> Request
+    ensures { λ r. ⌜ r ≡ exactlyIs 4 (now (payload .entry)) (Request.Erase (wordAt (now (payload .entry)) 0) (wordAt (now (payload .entry)) 2)) ⌝ }
+{
+    let first = word_at(payload, 0) as u32;
+    let count = word_at(payload, 2) as u32;
+    exactly(4, payload, Request::Erase { first, count })
+}
+
+fn go_in(payload: &[u8]) -> Request
+    ensures { λ r. ⌜ r ≡ exactlyIs 4 (now (payload .entry)) (Request.Go (longAt (now (payload .entry)) 0)) ⌝ }
+{
+    exactly(
+        4,
+        payload,
+        Request::Go {
+            address: long_at(payload, 0),
+        },
+    )
 }
 
 // A request whose data must be just so long.

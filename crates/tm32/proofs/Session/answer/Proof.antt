@@ -1,16 +1,25 @@
 -- `tm32::Session::answer` meets its contract: the code's five tests are the checks of a call, in their order.
 use Prim.Native.Nat.{ℕ}
+use mathlib.Core.Bool.{Bool, cond, not}
 use mathlib.Core.Path.{_≡_, refl, sym, _∙_}
 use denote.Ref.{now}
 use lib.ListN.{length}
 use borrow.Author.Needs.{needs}
 use borrow.Author.Tests.{eq-eqb, le-ltb, lt-ltb, ne-eqb, not-false, not-true}
-use Rattle.tm32.specs.After.{callChecks}
+use Rattle.tm32.specs.After.{Lent, callChecks}
 use Rattle.tm32.specs.Checks.{verdict}
 use Rattle.tm32.specs.Device.{Device, deviceOf, memoryOf}
+use Rattle.tm32.specs.Rates.{isRate}
 use Rattle.tm32.proofs.Answers.{heard, unheard}
 use Rattle.tm32.proofs.Session.answer.Statement.{statement}
 use Rattle.tm32.proofs.Session.answer.Tie as tie
+
+-- where the lengths and the room are right, the rate decides
+by-rate : (device : Device) (room : ℕ) {right : Bool} → Lent (device .memory) room → isRate (device .session .rate) ≡ right
+    → verdict 0 (callChecks device room) ≡ cond (not right) 5 0
+unfolding callChecks verdict
+by-rate device room given rate =
+    simp (eq-eqb _ _ (given .flash), eq-eqb _ _ (given .ram), eq-eqb _ _ (given .nvr), le-ltb _ _ (given .space), rate)
 
 module _ (c : tie.After-slice-known4) where
   abbrev start : tie.Start
@@ -62,50 +71,31 @@ returns-4 c =
     simp (eq-eqb _ _ (flash .if1 .left), eq-eqb _ _ (ram .if2 .left), eq-eqb _ _ (nvr .if3 .left), lt-ltb _ _ (room .if4 .taken)) in
     unheard _ (device (flash .before)) _ _ 4 says refl (c .refused4 .ensures)
 
+-- What was tested before the rate is right.
+lent : (c : tie.Else4) → let at = c .before .before .before .before in Lent (device at .memory) (length (now (start at .args .buffer)))
+lent c =
+    let nvr = c .before in
+    let ram = nvr .before in
+    record { flash = ram .before .if1 .left; ram = ram .if2 .left; nvr = nvr .if3 .left; space = c .if4 .left }
+
 -- 5
 returns-5 : tie.Need-returns-5
-unfolding callChecks verdict
 returns-5 c =
     let rate = c .before in
     let room = rate .before .before in
-    let nvr = room .before in
-    let ram = nvr .before in
-    let flash = ram .before in
-    let says : Says (flash .before) 5 =
-    simp (
-      eq-eqb _ _ (flash .if1 .left),
-      eq-eqb _ _ (ram .if2 .left),
-      eq-eqb _ _ (nvr .if3 .left),
-      le-ltb _ _ (room .if4 .left),
-      sym (rate .before .is-rate .ensures) ∙ not-true _ (rate .if5 .taken),
-    ) in
-    unheard _ (device (flash .before)) _ _ 5 says refl (c .refused5 .ensures)
+    let at = room .before .before .before .before in
+    unheard _ (device at) _ _ 5 (by-rate (device at) _ (lent room) (sym (rate .before .is-rate .ensures) ∙ not-true _ (rate .if5 .taken))) refl (c .refused5 .ensures)
 
 respond-requires : tie.Need-respond-requires
-respond-requires c κs =
-    let room = c .before .before .before .before .before .before in
-    let nvr = room .before in
-    let ram = nvr .before in
-    (ram .before .if1 .left, (ram .if2 .left, (nvr .if3 .left, room .if4 .left)))
+respond-requires c κs = lent (c .before .before .before .before .before .before)
 
 returns-6 : tie.Need-returns-6
-unfolding callChecks verdict
 returns-6 c =
     let respond = c .before .before .before .before .before .before .before .before in
     let rate = respond .before .before .before .before .before in
     let room = rate .before .before in
-    let nvr = room .before in
-    let ram = nvr .before in
-    let flash = ram .before in
-    let says : Says (flash .before) 0 =
-    simp (
-      eq-eqb _ _ (flash .if1 .left),
-      eq-eqb _ _ (ram .if2 .left),
-      eq-eqb _ _ (nvr .if3 .left),
-      le-ltb _ _ (room .if4 .left),
-      sym (rate .before .is-rate .ensures) ∙ not-false _ (rate .if5 .left),
-    ) in
-    respond .respond .ensures ∙ heard _ (device (flash .before)) _ _ says
+    let at = room .before .before .before .before in
+    respond .respond .ensures ∙ heard _ (device at) _ _ (by-rate (device at) _ (lent room) (sym (rate .before .is-rate .ensures) ∙ not-false _ (rate .if5 .left)))
 
 -- what the search finds: what calls ask that is asked here too, and that no call changes the length of a slice
 pub answer-spec : {M : Type 1} → statement M

@@ -35,7 +35,7 @@ module _ (c : tie.After-verdict) where
 verdict-requires : tie.Need-verdict-requires
 verdict-requires c κs =
     let start = c .before .before .before .before .before .before .before .before in
-    ap length (c .work .ensures) ∙ options-length (now (start .args .nvr)) (start .pre .1 .1 .0)
+    ap length (c .work .ensures) ∙ options-length (now (start .args .nvr)) (start .pre .nvr)
 
 returns : tie.Need-returns
 returns c =
@@ -47,8 +47,7 @@ returns c =
 work-requires-2 : tie.Need-work-requires-2
 work-requires-2 c κs =
     let test = c .before .before .before .before in
-    let pre = start (test .before) .pre in
-    (pre .0, (pre .1 .0, (pre .1 .1 .0, (pre .1 .1 .1, (asked (test .before) .request-in .ensures, sym (verdict-is (test .before)) ∙ test .if1 .left)))))
+    (start (test .before) .pre, (asked (test .before) .request-in .ensures, sym (verdict-is (test .before)) ∙ test .if1 .left))
 
 returns-2 : tie.Need-returns-2
 returns-2 c =

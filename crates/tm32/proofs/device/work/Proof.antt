@@ -1,5 +1,5 @@
 -- `tm32::device::work` meets its contract: the checks let the request through, so each command's work may be called, and what it leaves is what the definition says of that command.
-use Prim.Native.Nat.{ℕ, _≤_}
+use Prim.Native.Nat.{ℕ}
 use mathlib.Core.Bool.{true}
 use mathlib.Core.List.{List, []}
 use mathlib.Core.Path.{_≡_, refl, ap, ap₂, _∙_}
@@ -8,6 +8,7 @@ use denote.Ref.{now}
 use lib.ListN.{drop, length}
 use borrow.Author.Needs.{needs}
 use Rattle.frame.specs.Frame.{dataOf}
+use Rattle.tm32.specs.After.{Lent}
 use Rattle.tm32.specs.Checks.{checksOf, noneFails}
 use Rattle.tm32.specs.Device.{Device, Memory, deviceOf, memoryOf}
 use Rattle.tm32.specs.Map.{inUserRegion}
@@ -37,15 +38,15 @@ module _ (c : tie.After-slice-known4) where
   abbrev message : List ℕ
   message = now (start .args .message)
 
-  room : 1030 ≤ length (now (start .args .buffer))
-  room = start .pre .1 .1 .1 .0
+  lent : Lent memory (length (now (start .args .buffer)))
+  lent = start .pre .0
 
   -- of the request, by the name that the match knows it by
   passes : {known : Request} → start .args .request ≡ known → noneFails (checksOf (start .args .session .link) (optionBytes (now (start .args .nvr))) known) ≡ true
-  passes named = let-through device named (start .pre .1 .1 .1 .1 .1)
+  passes named = let-through device named (start .pre .1 .1)
 
   shaped : {known : Request} → start .args .request ≡ known → Shaped (dataOf message) known
-  shaped named = shaped-as message named (start .pre .1 .1 .1 .1 .0)
+  shaped named = shaped-as message named (start .pre .1 .0)
 
 -- ---- PPS
 
@@ -78,7 +79,7 @@ work-requires-3 c κs =
     let named = c .before .before .before .before in
     let at = named .before .before in
     let known = read-accepted _ _ _ _ (passes at (named .request2 .given .1)) in
-    (start at .pre .0, (start at .pre .1 .0, (start at .pre .1 .1 .0, known .inside)))
+    (lent at .flash, (lent at .ram, (lent at .nvr, known .inside)))
 
 reply-with-requires-2 : tie.Need-reply-with-requires-2
 reply-with-requires-2 c κs =
@@ -86,7 +87,7 @@ reply-with-requires-2 c κs =
     let named = read .before .before .before .before .before in
     let at = named .before .before in
     let known = read-accepted _ _ _ _ (passes at (named .request2 .given .1)) in
-    (omega (arith, ap length (read .work3 .ensures), read-length (memory at) (named .request2 .given .0 .0) (named .request2 .given .0 .1 .0), known .short), room at)
+    (omega (arith, ap length (read .work3 .ensures), read-length (memory at) (named .request2 .given .0 .0) (named .request2 .given .0 .1 .0), known .short), lent at .space)
 
 returns-3 : tie.Need-returns-3
 unfolding work
@@ -119,7 +120,7 @@ work-requires-4 c κs =
     let at = named .before .before in
     let known = write-accepted _ _ _ _ _ (passes at (named .request3 .given .1)) in
     let counted = ap length (to-write bytes) ∙ shaped at (named .request3 .given .1) .counted in
-    (start at .pre .0, (start at .pre .1 .0, (start at .pre .1 .1 .0, (omega (arith, counted, known .short), ap (inUserRegion _) counted ∙ known .inside))))
+    (lent at .flash, (lent at .ram, (lent at .nvr, (omega (arith, counted, known .short), ap (inUserRegion _) counted ∙ known .inside))))
 
 -- the result and the memory of a write, for the bytes that the message has
 wrote : (session : Session) (memory : Memory) (flag address : ℕ) {after : Memory} {result : ℕ} {bytes sent : List ℕ}
@@ -147,7 +148,7 @@ work-requires-5 c κs =
     let named = c .before .before .before .before in
     let at = named .before .before in
     let inside = crc-accepted _ _ _ _ _ (passes at (named .request4 .given .1)) in
-    (start at .pre .0, (start at .pre .1 .0, (start at .pre .1 .1 .0, inside)))
+    (lent at .flash, (lent at .ram, (lent at .nvr, inside)))
 
 returns-5 : tie.Need-returns-5
 unfolding work
@@ -165,7 +166,7 @@ work-requires-6 : tie.Need-work-requires-6
 work-requires-6 c κs =
     let named = c .before .before in
     let at = named .before .before in
-    (start at .pre .0, erase-accepted _ _ _ _ (passes at (named .request5 .given .1)) .inside)
+    (lent at .flash, erase-accepted _ _ _ _ (passes at (named .request5 .given .1)) .inside)
 
 returns-6 : tie.Need-returns-6
 unfolding work
@@ -196,7 +197,7 @@ unfolding Shaped
 work-requires-8 c κs =
     let named = c .before .before .before in
     let at = named .before .before in
-    (start at .pre .0, (start at .pre .1 .1 .0, ap length (c .data-of2 .ensures) ∙ shaped at (named .enum-told2 .given .1)))
+    (lent at .flash, (lent at .nvr, ap length (c .data-of2 .ensures) ∙ shaped at (named .enum-told2 .given .1)))
 
 returns-8 : tie.Need-returns-8
 unfolding work withOptions
@@ -215,7 +216,7 @@ reply-with-requires-3 : tie.Need-reply-with-requires-3
 reply-with-requires-3 c κs =
     let named = c .before .before .before in
     let at = named .before .before in
-    (omega (arith, ap length (c .before .work9 .ensures), options-length (memory at .nvr) (start at .pre .1 .1 .0)), room at)
+    (omega (arith, ap length (c .before .work9 .ensures), options-length (memory at .nvr) (lent at .nvr)), lent at .space)
 
 returns-9 : tie.Need-returns-9
 unfolding work

@@ -6,13 +6,13 @@ use mathlib.Core.Path.{_≡_, refl, sym, ap, _∙_}
 use borrow.Author.Needs.{needs}
 use Rattle.memory.specs.Stores.{part}
 use Rattle.tm32.specs.Device.{bytesAt, memoryOf}
-use Rattle.tm32.specs.Map.{flashStart, inFlash, inRam, nvrStart, ramStart}
+use Rattle.tm32.specs.Map.{flashStart, inFlash, inFlashOrRam, inRam, nvrStart, ramStart}
 use Rattle.tm32.proofs.Regions.{held, not-in-nvr, nvr-apart}
 use Rattle.tm32.proofs.read.work.Statement.{statement}
 use Rattle.tm32.proofs.read.work.Tie as tie
 
 -- a range in flash or RAM, picked from the two
-of-two : (flash ram nvr : List ℕ) (address count : ℕ) → inFlash address count || inRam address count ≡ true
+of-two : (flash ram nvr : List ℕ) (address count : ℕ) → inFlashOrRam address count ≡ true
     → cond (inFlash address count) (part flash (address - flashStart) count) (part ram (address - ramStart) count) ≡ bytesAt (memoryOf flash ram nvr) address count
 unfolding bytesAt
 of-two flash ram nvr address count inside = either (inFlash address count) (inRam address count) inside where

@@ -35,19 +35,15 @@ unknown c =
 
 returns : tie.Need-returns
 unfolding requestOf
-returns c =
-    let field = c .before in
-    known _ 0x00 (field .before .match .keys1) (c .exactly .ensures ∙ simp (field .byte-at .ensures))
+returns c = known _ 0x00 (c .before .match .keys1) (c .pps-in .ensures)
 
 returns-2 : tie.Need-returns-2
 unfolding requestOf
-returns-2 c = known _ 0x01 (c .before .match .keys2) (c .exactly2 .ensures)
+returns-2 c = known _ 0x01 (c .before .match .keys2) (c .exactly .ensures)
 
 returns-3 : tie.Need-returns-3
 unfolding requestOf
-returns-3 c =
-    let fields = c .before in
-    known _ 0x11 (fields .before .before .match .keys3) (c .exactly3 .ensures ∙ simp (fields .before .long-at .ensures, fields .word-at .ensures))
+returns-3 c = known _ 0x11 (c .before .match .keys3) (c .read-in .ensures)
 
 returns-4 : tie.Need-returns-4
 unfolding requestOf
@@ -55,34 +51,27 @@ returns-4 c = known _ 0x12 (c .before .match .keys4) (c .write-in .ensures)
 
 returns-5 : tie.Need-returns-5
 unfolding requestOf
-returns-5 c =
-    let fields = c .before in
-    known _ 0x13 (fields .before .before .before .match .keys5)
-    (c .exactly4 .ensures ∙ simp (fields .before .before .long-at2 .ensures, fields .before .long-at3 .ensures, fields .word-at2 .ensures))
+returns-5 c = known _ 0x13 (c .before .match .keys5) (c .memory-crc-in .ensures)
 
 returns-6 : tie.Need-returns-6
 unfolding requestOf
-returns-6 c =
-    let fields = c .before in
-    known _ 0x14 (fields .before .before .match .keys6) (c .exactly5 .ensures ∙ simp (fields .before .word-at3 .ensures, fields .word-at4 .ensures))
+returns-6 c = known _ 0x14 (c .before .match .keys6) (c .erase-in .ensures)
 
 returns-7 : tie.Need-returns-7
 unfolding requestOf
-returns-7 c =
-    let field = c .before in
-    known _ 0x21 (field .before .match .keys7) (c .exactly6 .ensures ∙ simp (field .long-at4 .ensures))
+returns-7 c = known _ 0x21 (c .before .match .keys7) (c .go-in .ensures)
 
 returns-8 : tie.Need-returns-8
 unfolding requestOf
-returns-8 c = known _ 0x31 (c .before .match .keys8) (c .exactly7 .ensures)
+returns-8 c = known _ 0x31 (c .before .match .keys8) (c .exactly2 .ensures)
 
 returns-9 : tie.Need-returns-9
 unfolding requestOf
-returns-9 c = known _ 0x32 (c .before .match .keys9) (c .exactly8 .ensures)
+returns-9 c = known _ 0x32 (c .before .match .keys9) (c .exactly3 .ensures)
 
 returns-10 : tie.Need-returns-10
 unfolding requestOf
-returns-10 c = known _ 0x41 (c .before .match .keys10) (c .exactly9 .ensures)
+returns-10 c = known _ 0x41 (c .before .match .keys10) (c .exactly4 .ensures)
 
 returns-11 : tie.Need-returns-11
 returns-11 c = unknown (c .before)
@@ -99,23 +88,11 @@ returns-14 c = unknown (c .before .before .before .before)
 returns-15 : tie.Need-returns-15
 returns-15 c = unknown (c .before .before .before .before)
 
--- what the calls and the casts ask comes first, and the search finds it
+-- what the calls ask comes first, and the search finds it
 pub request-of-spec : {M : Type 1} → statement M
 request-of-spec =
     tie.close
     (tie.spec
-    (search needs)
-    (search needs)
-    (search needs)
-    (search needs)
-    (search needs)
-    (search needs)
-    (search needs)
-    (search needs)
-    (search needs)
-    (search needs)
-    (search needs)
-    (search needs)
     (search needs)
     (search needs)
     (search needs)
