@@ -127,7 +127,8 @@ fn range_checked(length: bool, address: bool) -> u8
 
 // Page count and address of a run of pages.
 fn pages_checked(first: u32, count: u32) -> u8
-    ensures { λ r. ⌜ r ≡ verdictOf workDone (check (not (isPageCount count)) wrongPageCount ∷ check (ltb pageCount (first + count)) wrongAddress ∷ []) ⌝ }
+    ensures { λ r. ⌜ r ≡ verdictOf workDone
+        (check (not (isPageCount count)) wrongPageCount ∷ check (ltb pageCount (first + count)) wrongAddress ∷ []) ⌝ }
 {
     first_of(
         !is_page_count(count),

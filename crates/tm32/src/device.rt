@@ -9,6 +9,7 @@ use crate::checks;
 use crate::erase;
 use crate::get;
 use crate::go;
+use crate::heart_beat;
 use crate::map::FLASH_LENGTH;
 use crate::map::NVR_LENGTH;
 use crate::map::RAM_LENGTH;
@@ -57,7 +58,9 @@ impl Session {
         nvr: &mut [u8],
         buffer: &mut [u8],
     ) -> Turn
-        ensures { λ r. ⌜ leaves r (now (flash .exit)) (now (ram .exit)) (now (nvr .exit)) (now (buffer .exit)) ≡ after settings (deviceOf self (memoryOf (now (flash .entry)) (now (ram .entry)) (now (nvr .entry)))) (now (message .entry)) (now (buffer .entry)) ⌝ }
+        ensures { λ r. ⌜ leaves r (now (flash .exit)) (now (ram .exit)) (now (nvr .exit)) (now (buffer .exit))
+            ≡ after settings (deviceOf self (memoryOf (now (flash .entry)) (now (ram .entry)) (now (nvr .entry))))
+            (now (message .entry)) (now (buffer .entry)) ⌝ }
     {
         if flash.len() != FLASH_LENGTH as usize {
             return refused(self, 1);
@@ -109,7 +112,10 @@ fn respond(
     buffer: &mut [u8],
 ) -> Turn
     requires { ⌜ Lent (memoryOf (now flash) (now ram) (now nvr)) (length (now buffer)) ⌝ }
-    ensures { λ r. ⌜ leaves r (now (flash .exit)) (now (ram .exit)) (now (nvr .exit)) (now (buffer .exit)) ≡ layAnswer (now (buffer .entry)) (respondIs settings (deviceOf session (memoryOf (now (flash .entry)) (now (ram .entry)) (now (nvr .entry)))) (now (message .entry))) ⌝ }
+    ensures { λ r. ⌜ leaves r (now (flash .exit)) (now (ram .exit)) (now (nvr .exit)) (now (buffer .exit))
+        ≡ layAnswer (now (buffer .entry))
+        (respondIs settings (deviceOf session (memoryOf (now (flash .entry)) (now (ram .entry)) (now (nvr .entry))))
+        (now (message .entry))) ⌝ }
 {
     if message.len() == 0 {
         return silent(session);
@@ -165,7 +171,10 @@ fn serve(
     buffer: &mut [u8],
 ) -> Turn
     requires { ⌜ Lent (memoryOf (now flash) (now ram) (now nvr)) (length (now buffer)) ⌝ }
-    ensures { λ r. ⌜ leaves r (now (flash .exit)) (now (ram .exit)) (now (nvr .exit)) (now (buffer .exit)) ≡ layAnswer (now (buffer .entry)) (serveIs settings (deviceOf session (memoryOf (now (flash .entry)) (now (ram .entry)) (now (nvr .entry)))) (dataOf (now (message .entry))) (requestIn (now (message .entry)))) ⌝ }
+    ensures { λ r. ⌜ leaves r (now (flash .exit)) (now (ram .exit)) (now (nvr .exit)) (now (buffer .exit))
+        ≡ layAnswer (now (buffer .entry))
+        (serveIs settings (deviceOf session (memoryOf (now (flash .entry)) (now (ram .entry)) (now (nvr .entry))))
+        (dataOf (now (message .entry))) (requestIn (now (message .entry)))) ⌝ }
 {
     let request = request_in(message);
     let link = session.link;
@@ -190,7 +199,10 @@ fn work(
     requires { ⌜ Lent (memoryOf (now flash) (now ram) (now nvr)) (length (now buffer)) ⌝ }
     requires { ⌜ request ≡ requestIn (now message) ⌝ }
     requires { ⌜ verdictOn (deviceOf session (memoryOf (now flash) (now ram) (now nvr))) request ≡ workDone ⌝ }
-    ensures { λ r. ⌜ leaves r (now (flash .exit)) (now (ram .exit)) (now (nvr .exit)) (now (buffer .exit)) ≡ layAnswer (now (buffer .entry)) (replyTo (workIs settings (deviceOf session (memoryOf (now (flash .entry)) (now (ram .entry)) (now (nvr .entry)))) (dataOf (now (message .entry))) request)) ⌝ }
+    ensures { λ r. ⌜ leaves r (now (flash .exit)) (now (ram .exit)) (now (nvr .exit)) (now (buffer .exit))
+        ≡ layAnswer (now (buffer .entry))
+        (replyTo (workIs settings (deviceOf session (memoryOf (now (flash .entry)) (now (ram .entry)) (now (nvr .entry))))
+        (dataOf (now (message .entry))) request)) ⌝ }
 {
     match request {
         Request::Pps { code } => reply(pps::work(session, code), WORK_DONE, buffer),
@@ -226,7 +238,7 @@ fn work(
             reply(session, WORK_DONE, buffer)
         }
         Request::ReadOptions => reply_with(session, WORK_DONE, read_options::work(nvr), buffer),
-        Request::HeartBeat => reply(session, WORK_DONE, buffer),
+        Request::HeartBeat => reply(heart_beat::work(session), WORK_DONE, buffer),
         // The checks let none of these through.
         Request::Misshapen => reply(session, WRONG_SHAPE, buffer),
     }

@@ -5,6 +5,7 @@ mod device;
 mod erase;
 mod get;
 mod go;
+mod heart_beat;
 mod map;
 mod memory_crc;
 mod options;

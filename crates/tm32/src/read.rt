@@ -38,7 +38,9 @@ fn picked<'a>(flash: &'a [u8], ram: &'a [u8], address: u32, count: u32) -> &'a [
     requires { ⌜ length (now flash) ≡ flashLength ⌝ }
     requires { ⌜ length (now ram) ≡ ramLength ⌝ }
     requires { ⌜ inFlashOrRam address count ≡ true ⌝ }
-    ensures { λ r. ⌜ now r ≡ cond (inFlash address count) (part (now (flash .entry)) (address - flashStart) count) (part (now (ram .entry)) (address - ramStart) count) ⌝ }
+    ensures { λ r. ⌜ now r
+        ≡ cond (inFlash address count) (part (now (flash .entry)) (address - flashStart) count)
+        (part (now (ram .entry)) (address - ramStart) count) ⌝ }
 {
     if in_flash(address, count) {
         return range_of(flash, FLASH_START, address, count);

@@ -51,7 +51,8 @@ fn request_of(command: u8, payload: &[u8]) -> Request
 
 // The requests with fields: each field where it stands in the data.
 fn pps_in(payload: &[u8]) -> Request
-    ensures { λ r. ⌜ r ≡ exactlyIs 1 (now (payload .entry)) (Request.Pps (getD (now (payload .entry)) 0 0)) ⌝ }
+    ensures { λ r. ⌜ r ≡ exactlyIs 1 (now (payload .entry))
+        (Request.Pps (getD (now (payload .entry)) 0 0)) ⌝ }
 {
     exactly(
         1,
@@ -63,7 +64,8 @@ fn pps_in(payload: &[u8]) -> Request
 }
 
 fn read_in(payload: &[u8]) -> Request
-    ensures { λ r. ⌜ r ≡ exactlyIs 6 (now (payload .entry)) (Request.Read (longAt (now (payload .entry)) 0) (wordAt (now (payload .entry)) 4)) ⌝ }
+    ensures { λ r. ⌜ r ≡ exactlyIs 6 (now (payload .entry))
+        (Request.Read (longAt (now (payload .entry)) 0) (wordAt (now (payload .entry)) 4)) ⌝ }
 {
     let address = long_at(payload, 0);
     let count = word_at(payload, 4) as u32;
@@ -71,7 +73,8 @@ fn read_in(payload: &[u8]) -> Request
 }
 
 fn memory_crc_in(payload: &[u8]) -> Request
-    ensures { λ r. ⌜ r ≡ exactlyIs 10 (now (payload .entry)) (Request.MemoryCrc (longAt (now (payload .entry)) 0) (longAt (now (payload .entry)) 4) (wordAt (now (payload .entry)) 8)) ⌝ }
+    ensures { λ r. ⌜ r ≡ exactlyIs 10 (now (payload .entry))
+        (Request.MemoryCrc (longAt (now (payload .entry)) 0) (longAt (now (payload .entry)) 4) (wordAt (now (payload .entry)) 8)) ⌝ }
 {
     let address = long_at(payload, 0);
     let count = long_at(payload, 4);
@@ -88,7 +91,8 @@ fn memory_crc_in(payload: &[u8]) -> Request
 }
 
 fn erase_in(payload: &[u8]) -> Request
-    ensures { λ r. ⌜ r ≡ exactlyIs 4 (now (payload .entry)) (Request.Erase (wordAt (now (payload .entry)) 0) (wordAt (now (payload .entry)) 2)) ⌝ }
+    ensures { λ r. ⌜ r ≡ exactlyIs 4 (now (payload .entry))
+        (Request.Erase (wordAt (now (payload .entry)) 0) (wordAt (now (payload .entry)) 2)) ⌝ }
 {
     let first = word_at(payload, 0) as u32;
     let count = word_at(payload, 2) as u32;
@@ -96,7 +100,8 @@ fn erase_in(payload: &[u8]) -> Request
 }
 
 fn go_in(payload: &[u8]) -> Request
-    ensures { λ r. ⌜ r ≡ exactlyIs 4 (now (payload .entry)) (Request.Go (longAt (now (payload .entry)) 0)) ⌝ }
+    ensures { λ r. ⌜ r ≡ exactlyIs 4 (now (payload .entry))
+        (Request.Go (longAt (now (payload .entry)) 0)) ⌝ }
 {
     exactly(
         4,

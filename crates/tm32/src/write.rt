@@ -33,7 +33,10 @@ pub(crate) fn work(
     requires { ⌜ length (now nvr) ≡ nvrLength ⌝ }
     requires { ⌜ length (now bytes) ≤ mostBytes ⌝ }
     requires { ⌜ inUserRegion address (length (now bytes)) ≡ true ⌝ }
-    ensures { λ r. ⌜ (memoryOf (now (flash .exit)) (now (ram .exit)) (now (nvr .exit)) ≡ written (memoryOf (now (flash .entry)) (now (ram .entry)) (now (nvr .entry))) address (now (bytes .entry))) × (r ≡ readback flag address (now (bytes .entry)) (written (memoryOf (now (flash .entry)) (now (ram .entry)) (now (nvr .entry))) address (now (bytes .entry)))) ⌝ }
+    ensures { λ r. ⌜ (memoryOf (now (flash .exit)) (now (ram .exit)) (now (nvr .exit))
+        ≡ written (memoryOf (now (flash .entry)) (now (ram .entry)) (now (nvr .entry))) address (now (bytes .entry)))
+        × (r ≡ readback flag address (now (bytes .entry))
+        (written (memoryOf (now (flash .entry)) (now (ram .entry)) (now (nvr .entry))) address (now (bytes .entry)))) ⌝ }
 {
     let count = bytes.len() as u32;
     if in_flash(address, count) {
@@ -50,7 +53,9 @@ pub(crate) fn work(
 // Programs bytes of the flash. Where a byte is not as it was sent, the result says so to a host that asked with flag 1.
 fn program(flash: &mut [u8], place: usize, flag: u8, bytes: &[u8]) -> u8
     requires { ⌜ place + length (now bytes) ≤ length (now flash) ⌝ }
-    ensures { λ r. ⌜ (now (flash .exit) ≡ replaced (now (flash .entry)) place (kept (now (flash .entry)) place (now (bytes .entry)))) × (r ≡ cond (eqb flag 1 && not (same (kept (now (flash .entry)) place (now (bytes .entry))) (now (bytes .entry)))) readbackDiffers workDone) ⌝ }
+    ensures { λ r. ⌜ (now (flash .exit) ≡ replaced (now (flash .entry)) place (kept (now (flash .entry)) place (now (bytes .entry))))
+        × (r ≡ cond (eqb flag 1 && not (same (kept (now (flash .entry)) place (now (bytes .entry))) (now (bytes .entry))))
+        readbackDiffers workDone) ⌝ }
 {
     match memory::program(flash, place, bytes) {
         Programmed::AsGiven => WORK_DONE,

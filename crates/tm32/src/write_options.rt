@@ -16,7 +16,8 @@ pub(crate) fn work(flash: &mut [u8], nvr: &mut [u8], options: &[u8])
     requires { ⌜ length (now flash) ≡ flashLength ⌝ }
     requires { ⌜ length (now nvr) ≡ nvrLength ⌝ }
     requires { ⌜ length (now options) ≡ optionsLength ⌝ }
-    ensures { λ _. ⌜ (now (flash .exit) ≡ wiped (optionBytes (now (nvr .entry))) (now (options .entry)) pageCount (now (flash .entry))) × (now (nvr .exit) ≡ replaced (now (nvr .entry)) (optionsStart - nvrStart) (now (options .entry))) ⌝ }
+    ensures { λ _. ⌜ (now (flash .exit) ≡ wiped (optionBytes (now (nvr .entry))) (now (options .entry)) pageCount (now (flash .entry)))
+        × (now (nvr .exit) ≡ replaced (now (nvr .entry)) (optionsStart - nvrStart) (now (options .entry))) ⌝ }
 {
     wipe(read_options::work(nvr), options, flash);
     memory::store(nvr, OPTIONS_PLACE, options);

@@ -232,7 +232,11 @@ returns-10 : tie.Need-returns-10
 unfolding work
 returns-10 c =
     let reply = c .before .before in
-    works _ _ _ _ _ _ (reply .before .before .enum-told4 .given .1) (reply .reply7 .ensures) refl
+    let beat = reply .before .before in
+    let named = beat .before in
+    let at = named .before .before in
+    works _ _ _ _ _ _ (named .enum-told4 .given .1) (reply .reply7 .ensures)
+    (ap (λ (session : Session). worked workDone [] (deviceOf session (memory at))) (beat .work10 .ensures))
 
 returns-11 : tie.Need-returns-11
 unfolding work
@@ -276,6 +280,7 @@ work-spec =
     (search needs)
     (search needs)
     reply-with-requires-3
+    (search needs)
     (search needs)
     (search needs)
     (search needs)
