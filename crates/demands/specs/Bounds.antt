@@ -14,7 +14,7 @@ use Rattle.tm32.specs.Map.{inReadRegion, inUserRegion}
 use Rattle.tm32.specs.Numbers.{fromOneTo, long, longAt}
 use Rattle.tm32.specs.Options.{inEither, optionBytes, rdpOn}
 use Rattle.tm32.specs.Request.{exactly, readAs, requestIn, requestOf, writeIn}
-use Rattle.tm32.specs.Respond.{greet, refuse, replyTo, respond, respondIn, serve, verdictOn}
+use Rattle.tm32.specs.Respond.{greet, refuse, replyTo, respond, serve, verdictOn}
 use Rattle.tm32.specs.Work.{commandWord, compared, erased, information, readback, toldCommands, wiped, wipes, withOptions, work, written}
 use Rattle.tm32.specs.declared.Link.the-variants.{Spi}
 use Rattle.tm32.specs.declared.State.the-variants.{Talking, Gone}
@@ -78,5 +78,5 @@ boundCases = otherCommands ++ moreBounds
 
 -- All of them hold.
 all-hold : computed boundCases ≡ expected boundCases
-unfolding computed expected prepared hex little message halfwords options boundCases otherCommands moreBounds respond respondIn greet serve replyTo verdictOn refuse frame covered word crc byteDone bitsDone bitDone shifted polynomial reading wordAt dataOf requestIn readAs requestOf writeIn exactly longAt checks verdict protections readChecks writeChecks flashPages somePage someFrom covers touched within inReadRegion inUserRegion bytesAt part replaced masked kept same rdpOn inEither optionBytes erased wipes wiped withOptions work written readback compared information long commandWord toldCommands freshDevice freshFlash freshRam freshNvr freshOptions freshSettings fromOneTo
+unfolding computed expected prepared hex little message halfwords options boundCases otherCommands moreBounds respond greet serve replyTo verdictOn refuse frame covered word crc byteDone bitsDone bitDone shifted polynomial reading wordAt dataOf requestIn readAs requestOf writeIn exactly longAt checks verdict protections readChecks writeChecks flashPages somePage someFrom covers touched within inReadRegion inUserRegion bytesAt part replaced masked kept same rdpOn inEither optionBytes erased wipes wiped withOptions work written readback compared information long commandWord toldCommands freshDevice freshFlash freshRam freshNvr freshOptions freshSettings fromOneTo
 all-hold = refl

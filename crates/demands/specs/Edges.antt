@@ -16,7 +16,7 @@ use Rattle.tm32.specs.Map.{inReadRegion, inUserRegion}
 use Rattle.tm32.specs.Numbers.{fromOneTo, longAt}
 use Rattle.tm32.specs.Options.{inEither, optionBytes, rdpOn}
 use Rattle.tm32.specs.Request.{exactly, readAs, requestIn, requestOf, writeIn}
-use Rattle.tm32.specs.Respond.{greet, refuse, replyTo, respond, respondIn, serve, verdictOn}
+use Rattle.tm32.specs.Respond.{greet, refuse, replyTo, respond, serve, verdictOn}
 use Rattle.tm32.specs.Work.{erased, readback, wiped, wipes, withOptions, work, written}
 use Rattle.tm32.specs.declared.State.the-variants.{Waiting, Talking}
 use Rattle.demands.specs.Cases.{Case, blankDevice, blankFlash, case, computed, expected, filled, fresh, fullDevice, fullFlash, fullPages, onBench, oneByte, pcrop5, pcrop5wrp7, prepared, put, rdp, rdpWrp7, wrp7}
@@ -74,5 +74,5 @@ workedCases = asGiven ++ overFullFlash ++ almostRight
 
 -- All of them hold.
 all-hold : computed workedCases ≡ expected workedCases
-unfolding computed expected prepared hex little message halfwords options workedCases asGiven overFullFlash almostRight respond respondIn greet serve replyTo verdictOn refuse frame covered word crc byteDone bitsDone bitDone shifted polynomial reading wordAt dataOf requestIn readAs requestOf writeIn exactly longAt checks verdict protections readChecks writeChecks flashPages somePage someFrom covers touched within inReadRegion inUserRegion bytesAt part replaced masked kept same rdpOn inEither optionBytes erased wipes wiped withOptions work written readback freshDevice freshFlash freshRam freshNvr freshOptions freshSettings fromOneTo
+unfolding computed expected prepared hex little message halfwords options workedCases asGiven overFullFlash almostRight respond greet serve replyTo verdictOn refuse frame covered word crc byteDone bitsDone bitDone shifted polynomial reading wordAt dataOf requestIn readAs requestOf writeIn exactly longAt checks verdict protections readChecks writeChecks flashPages somePage someFrom covers touched within inReadRegion inUserRegion bytesAt part replaced masked kept same rdpOn inEither optionBytes erased wipes wiped withOptions work written readback freshDevice freshFlash freshRam freshNvr freshOptions freshSettings fromOneTo
 all-hold = refl

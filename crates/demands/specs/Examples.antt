@@ -20,7 +20,7 @@ use Rattle.tm32.specs.Options.{inEither, rdpOn, underPcrop, underWrp}
 use Rattle.tm32.specs.Rates.{bitsPerSecond, rates}
 use Rattle.tm32.specs.Numbers.{fromOneTo, long, longAt}
 use Rattle.tm32.specs.Request.{exactly, readAs, requestIn, requestOf}
-use Rattle.tm32.specs.Respond.{greet, refuse, replyTo, respond, respondIn, serve, verdictOn}
+use Rattle.tm32.specs.Respond.{greet, refuse, replyTo, respond, serve, verdictOn}
 use Rattle.tm32.specs.Run.{restarted, run, sent}
 use Rattle.tm32.specs.Work.{commandWord, information, spi1, toldCommands, uart1, uart2, work}
 use Rattle.tm32.specs.declared.Link.the-variants.{Spi, Uart}
@@ -125,10 +125,10 @@ nothing-without-room = refl
 a-short-run :
     run freshSettings freshDevice (sent handshake 1030 ∷ sent heartBeat 1029 ∷ sent heartBeat 1030 ∷ restarted Spi ∷ sent heartBeat 1030 ∷ []) .told
     ≡ replied shaken ∷ noReply 4 ∷ replied done ∷ replied (hex 6 0x2D8000009235) ∷ []
-unfolding hex run tell callChecks verdict respond respondIn greet serve replyTo refuse verdictOn checks protections work requestIn readAs requestOf exactly reading wordAt dataOf frame covered word crc byteDone bitsDone bitDone shifted polynomial same freshDevice freshFlash freshRam freshNvr freshOptions replaced fromOneTo
+unfolding hex run tell callChecks verdict respond greet serve replyTo refuse verdictOn checks protections work requestIn readAs requestOf exactly reading wordAt dataOf frame covered word crc byteDone bitsDone bitDone shifted polynomial same freshDevice freshFlash freshRam freshNvr freshOptions replaced fromOneTo
 a-short-run = refl
 
 -- The reply lies over the start of the buffer, and the rest of it is as it came.
 rest-of-the-buffer : after freshSettings freshDevice handshake (replicate 1040 0x11) .buffer ≡ 0x79 ∷ replicate 1039 0x11
-unfolding hex after lay laid tell callChecks verdict respond respondIn greet same freshDevice freshFlash freshRam freshNvr freshOptions replaced word fromOneTo
+unfolding hex after lay laid tell callChecks verdict respond greet same freshDevice freshFlash freshRam freshNvr freshOptions replaced word fromOneTo
 rest-of-the-buffer = refl

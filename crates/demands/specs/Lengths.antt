@@ -19,7 +19,7 @@ use Rattle.tm32.specs.declared.Request.the-variants.{Pps, Get, Read, Write, Mem
 use Rattle.tm32.specs.declared.Settings.{Settings}
 use Rattle.tm32.proofs.Accepted.{Shaped, erase-accepted, write-accepted}
 use Rattle.tm32.proofs.Written.{erased-length, wiped-length}
-use Rattle.demands.specs.Accepted.{Known, Stored, fits, intoFlash, intoNvr, intoRam, memory-after, nvr-fits, stored-so}
+use Rattle.demands.specs.Ways.{Known, Stored, fits, intoFlash, intoNvr, intoRam, memory-after, nvr-fits, stored-so}
 
 -- That two memories are as long as one another, region by region.
 pub record SameLengths (old new : Memory) : Type 0 where

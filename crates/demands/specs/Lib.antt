@@ -1,4 +1,4 @@
--- What is shown of the TM32G07x, over the definitions of `tm32`.
+-- What is shown of the TM32G07x, over the definitions of `tm32`. First what is worked out case by case, then what holds of every message.
 pub mod Wire
 pub mod Cases
 pub mod Edges
@@ -6,7 +6,7 @@ pub mod Bounds
 pub mod Examples
 pub mod Order
 pub mod FirstFailing
-pub mod Accepted
+pub mod Ways
 pub mod Refused
 pub mod Lengths
 pub mod Stays

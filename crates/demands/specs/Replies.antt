@@ -25,7 +25,7 @@ use Rattle.tm32.specs.declared.Request.the-variants.{Pps, Get, Read, Write, Mem
 use Rattle.tm32.specs.declared.Settings.{Settings}
 use Rattle.tm32.proofs.Accepted.{of-both, read-accepted}
 use Rattle.tm32.proofs.Written.{part-length, read-length}
-use Rattle.demands.specs.Accepted.{Heard, greeted, heard-so, reply-told, silent, turnedAway, unshaken, workedOn}
+use Rattle.demands.specs.Ways.{Heard, greeted, heard-so, reply-told, silent, turnedAway, unshaken, workedOn}
 use Rattle.demands.specs.FirstFailing.{FirstFailing, number-so, order-so, passAll, requestChecks}
 use Rattle.demands.specs.Order.{order}
 use Rattle.demands.specs.Refused.{isOneOf}

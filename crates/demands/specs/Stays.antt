@@ -25,7 +25,7 @@ use Rattle.tm32.specs.declared.Request.the-variants.{Pps, Get, Read, Write, Mem
 use Rattle.tm32.specs.declared.Settings.{Settings}
 use Rattle.tm32.proofs.Accepted.{EraseAccepted, Shaped, WriteAccepted, erase-accepted, write-accepted}
 use Rattle.tm32.proofs.Written.{pages-fit}
-use Rattle.demands.specs.Accepted.{Known, Stored, fits, intoFlash, intoNvr, intoRam, memory-after, nvr-fits, stored-so}
+use Rattle.demands.specs.Ways.{Known, Stored, fits, intoFlash, intoNvr, intoRam, memory-after, nvr-fits, stored-so}
 use Rattle.demands.specs.FirstFailing.{requestChecks}
 
 -- The byte at an address.

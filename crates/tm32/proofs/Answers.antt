@@ -10,14 +10,13 @@ use Rattle.frame.specs.Frame.{frame, laid}
 use Rattle.tm32.specs.After.{Laid, after, callChecks, lay, layAnswer, leaves, tell, turnOf}
 use Rattle.tm32.specs.Checks.{verdict}
 use Rattle.tm32.specs.Device.{Device, crcStart, deviceOf, memoryOf}
-use Rattle.tm32.specs.Respond.{Answered, answered, refuse, replyTo, respond, respondIn, serve, verdictOn}
+use Rattle.tm32.specs.Respond.{Answered, answered, refuse, replyTo, respond, serve, verdictOn}
 use Rattle.tm32.specs.Results.{workDone}
 use Rattle.tm32.specs.Work.{work, worked}
 use Rattle.tm32.specs.declared.Answer.the-variants.{Refused, Reply}
 use Rattle.tm32.specs.declared.Request.{Request}
 use Rattle.tm32.specs.declared.Session.{Session}
 use Rattle.tm32.specs.declared.Settings.{Settings}
-use Rattle.tm32.specs.declared.State.{State}
 use Rattle.tm32.specs.declared.Turn.{Turn}
 
 module _ (flash ram nvr : List ℕ) {turn : Turn} {after buffer : List ℕ} {session : Session} where
@@ -56,12 +55,6 @@ module _ (settings : Settings) (device : Device) where
   serves payload {request} same passes =
       let works : replyTo (work settings device payload request) ≡ serve settings device payload request = simp (eq-eqb _ _ passes) in
       works ∙ ap (serve settings device payload) same
-
-  -- a message that is not empty, by the state
-  pub answers-in : (message : List ℕ) {state : State} → (length message ≡ 0 → ⊥) → device .session .state ≡ state
-      → respondIn state settings device message ≡ respond settings device message
-  unfolding respond
-  answers-in message some at = ap (λ (one : State). respondIn one settings device message) (sym at) ∙ simp (ne-eqb (length message) 0 some)
 
   -- a call is told the number of a check that fails, and is heard where none does
   pub unheard : (message buffer : List ℕ) {turn : Turn} (number : ℕ) → verdict 0 (callChecks device (length buffer)) ≡ number → eqb number 0 ≡ false

@@ -1,6 +1,6 @@
 -- Document 01, "A message and its reply": what a device does with a message, and what it replies, where its memory has the lengths of the map. `After` sees to that, and to the reply buffer.
 use Prim.Native.Nat.{ℕ}
-use mathlib.Core.Bool.{cond}
+use mathlib.Core.Bool.{Bool, true, false, cond, _||_}
 use mathlib.Core.List.{List, [], _∷_}
 use lib.Dec.{eqb}
 use lib.ListN.{length}
@@ -55,13 +55,22 @@ serve settings device payload request =
 unfoldable pub greet : Device → Answered
 greet device = answered (withSession device (inState (device .session) Talking)) helloBack
 
--- A message that is not empty. A device that has Gone answers nothing. The handshake is answered in the other two states; any other message is refused while Waiting, and read while
--- Talking.
-unfoldable pub respondIn : State → Settings → Device → List ℕ → Answered
-respondIn Waiting settings device message = cond (same message hello) (greet device) (refuse device noHandshake)
-respondIn Talking settings device message = cond (same message hello) (greet device) (serve settings device (dataOf message) (requestIn message))
-respondIn (Gone address) settings device message = answered device []
+-- Whether a session has Gone, and whether it still Waits.
+abbrev pub isGone : State → Bool
+isGone Waiting = false
+isGone Talking = false
+isGone (Gone address) = true
 
--- The answer to a message. An empty one draws an empty reply.
+abbrev pub isWaiting : State → Bool
+isWaiting Waiting = true
+isWaiting Talking = false
+isWaiting (Gone address) = false
+
+-- The answer to a message. An empty one, and any to a device that has Gone, draws an empty reply. Of the others the handshake is answered; what else comes is refused while
+-- Waiting, and read while Talking.
 unfoldable pub respond : Settings → Device → List ℕ → Answered
-respond settings device message = cond (eqb (length message) 0) (answered device []) (respondIn (device .session .state) settings device message)
+respond settings device message =
+    cond (eqb (length message) 0 || isGone (device .session .state)) (answered device [])
+    (cond (same message hello) (greet device)
+    (cond (isWaiting (device .session .state)) (refuse device noHandshake)
+    (serve settings device (dataOf message) (requestIn message))))

@@ -34,7 +34,7 @@ ghost use Rattle.memory.specs.Stores.{same};
 ghost use Rattle.tm32.specs.After.{Laid, Lent, after, layAnswer, leaves, replyRoom, turnOf};
 ghost use Rattle.tm32.specs.Device.{deviceOf, inState, memoryOf};
 ghost use Rattle.tm32.specs.Request.{requestIn};
-ghost use Rattle.tm32.specs.Respond.{hello, helloBack, replyTo, respond as respondIs, serve as serveIs, verdictOn};
+ghost use Rattle.tm32.specs.Respond.{hello, helloBack, isGone, isWaiting, replyTo, respond as respondIs, serve as serveIs, verdictOn};
 ghost use Rattle.tm32.specs.Results.{workDone};
 ghost use Rattle.tm32.specs.Work.{work as workIs};
 
@@ -101,7 +101,7 @@ fn silent(session: Session) -> Turn
     }
 }
 
-// The answer to a message, by the state of the session.
+// The answer to a message that the call's own checks let through.
 fn respond(
     session: Session,
     settings: Settings,
@@ -121,20 +121,36 @@ fn respond(
         return silent(session);
     }
     let state = session.state;
+    if is_gone(state) {
+        return silent(session);
+    }
+    if is_hello(message) {
+        return greet(session, buffer);
+    }
+    if is_waiting(state) {
+        return reply(session, NO_HANDSHAKE, buffer);
+    }
+    serve(session, settings, message, flash, ram, nvr, buffer)
+}
+
+// Whether a session has Gone, and whether it still Waits.
+fn is_gone(state: State) -> bool
+    ensures { λ r. ⌜ r ≡ isGone state ⌝ }
+{
     match state {
-        State::Waiting => {
-            if is_hello(message) {
-                return greet(session, buffer);
-            }
-            reply(session, NO_HANDSHAKE, buffer)
-        }
-        State::Talking => {
-            if is_hello(message) {
-                return greet(session, buffer);
-            }
-            serve(session, settings, message, flash, ram, nvr, buffer)
-        }
-        State::Gone { address: _ } => silent(session),
+        State::Waiting => false,
+        State::Talking => false,
+        State::Gone { address: _ } => true,
+    }
+}
+
+fn is_waiting(state: State) -> bool
+    ensures { λ r. ⌜ r ≡ isWaiting state ⌝ }
+{
+    match state {
+        State::Waiting => true,
+        State::Talking => false,
+        State::Gone { address: _ } => false,
     }
 }
 

@@ -16,13 +16,11 @@ use Rattle.tm32.specs.Checks.{noneFails}
 use Rattle.tm32.specs.Device.{Device, Memory, withFlash, withNvr, withRam}
 use Rattle.tm32.specs.Map.{flashStart, inFlash, inRam, inUserNvr, inUserRegion, nvrLength, nvrStart, ramStart, userNvrLength, userNvrStart}
 use Rattle.tm32.specs.Request.{requestIn}
-use Rattle.tm32.specs.Respond.{Answered, answered, greet, hello, refuse, replyTo, respond, respondIn}
+use Rattle.tm32.specs.Respond.{Answered, answered, greet, hello, isGone, isWaiting, refuse, replyTo, respond}
 use Rattle.tm32.specs.Results.{noHandshake}
 use Rattle.tm32.specs.Work.{work, written}
 use Rattle.tm32.specs.declared.Request.{Request}
 use Rattle.tm32.specs.declared.Settings.{Settings}
-use Rattle.tm32.specs.declared.State.{State}
-use Rattle.tm32.specs.declared.State.the-variants.{Waiting, Talking, Gone}
 use Rattle.tm32.proofs.Accepted.{Shaped, next, of-both, shaped-so}
 use Rattle.demands.specs.FirstFailing.{Called, FirstFailing, Served, accepted, called, heard, refused, requestChecks, served, unheard}
 
@@ -55,17 +53,15 @@ module _ (settings : Settings) (device : Device) (message : List ℕ) where
   on-request answer (refused number found) = turnedAway number found
   on-request answer (accepted pass) = workedOn pass
 
-  -- a message in each state
-  in-state : (state : State) → Heard settings device message (respondIn state settings device message)
-  unfolding respondIn
-  in-state Waiting = of-both (Heard settings device message) (same message hello) greeted unshaken
-  in-state Talking = of-both (Heard settings device message) (same message hello) greeted (on-request _ (served settings device (dataOf message) (requestIn message)))
-  in-state (Gone address) = silent
-
   -- every message goes one of them
   pub heard-so : Heard settings device message (respond settings device message)
   unfolding respond
-  heard-so = of-both (Heard settings device message) (eqb (length message) 0) silent (in-state (device .session .state))
+  heard-so =
+      let way = Heard settings device message in
+      of-both way (eqb (length message) 0 || isGone (device .session .state)) silent
+      (of-both way (same message hello) greeted
+      (of-both way (isWaiting (device .session .state)) unshaken
+      (on-request _ (served settings device (dataOf message) (requestIn message)))))
 
 -- ---- what the checks say where they pass
 
