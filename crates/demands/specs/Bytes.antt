@@ -12,11 +12,12 @@ use Rattle.frame.specs.Frame.{dataOf, frame, word}
 use Rattle.frame.proofs.Laws.{data-bytes, frame-bytes, joined-bytes, last-bytes, more-bytes, none-bytes, word-bytes}
 use Rattle.memory.specs.Stores.{kept}
 use Rattle.memory.proofs.Laws.{AllBytes, kept-bytes, length-kept, part-bytes, replaced-bytes, replicate-bytes}
-use Rattle.tm32.specs.After.{Lent, replied, tell}
+use Rattle.tm32.specs.After.{replied, tell}
 use Rattle.tm32.specs.Device.{Device, Memory, bytesAt, crcStart}
 use Rattle.tm32.specs.Map.{blank, flashLength, flashStart, inFlash, inRam, nvrStart, optionsLength, optionsStart, pageCount, pageSize, ramLength, ramStart}
 use Rattle.tm32.specs.Numbers.{long}
 use Rattle.tm32.specs.Options.{optionBytes}
+use Rattle.tm32.specs.Promises.{Lent}
 use Rattle.tm32.specs.Request.{requestIn}
 use Rattle.tm32.specs.Respond.{Answered, greet, refuse, replyTo, respond}
 use Rattle.tm32.specs.Results.{noHandshake}

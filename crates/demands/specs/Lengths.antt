@@ -8,10 +8,11 @@ use lib.ListN.{length, drop}
 use Rattle.frame.specs.Frame.{dataOf}
 use Rattle.memory.specs.Stores.{kept}
 use Rattle.memory.proofs.Laws.{length-kept, length-replaced}
-use Rattle.tm32.specs.After.{Lent, tell}
+use Rattle.tm32.specs.After.{tell}
 use Rattle.tm32.specs.Device.{Device, Memory}
 use Rattle.tm32.specs.Map.{flashLength, flashStart, nvrStart, optionsLength, optionsStart, pageCount, ramLength, ramStart}
 use Rattle.tm32.specs.Options.{optionBytes}
+use Rattle.tm32.specs.Promises.{Lent}
 use Rattle.tm32.specs.Request.{requestIn}
 use Rattle.tm32.specs.Work.{withOptions, work}
 use Rattle.tm32.specs.declared.Request.{Request}

@@ -13,11 +13,12 @@ use Rattle.memory.specs.Ranges.{within}
 use Rattle.memory.specs.declared.PageRun.{PageRun}
 use Rattle.memory.specs.Stores.{kept, part, replaced}
 use Rattle.memory.proofs.Laws.{in-region, length-kept, part-at, region-holds, replaced-before, replaced-behind, some-page, touched-page}
-use Rattle.tm32.specs.After.{Lent, tell}
+use Rattle.tm32.specs.After.{tell}
 use Rattle.tm32.specs.Checks.{flashPages, noneFails}
 use Rattle.tm32.specs.Device.{Device, Memory, bytesAt}
 use Rattle.tm32.specs.Map.{blank, flashLength, flashStart, inFlash, inNvr, inRam, inReadRegion, inUserNvr, inUserRegion, nvrLength, nvrStart, optionsLength, optionsStart, pageCount, pageSize, ramLength, ramStart, userNvrLength, userNvrStart}
 use Rattle.tm32.specs.Options.{optionBytes, rdpOn, underWrp}
+use Rattle.tm32.specs.Promises.{Lent}
 use Rattle.tm32.specs.Request.{requestIn}
 use Rattle.tm32.specs.Work.{erased, wiped, wipes, withOptions, work}
 use Rattle.tm32.specs.declared.Request.{Request}

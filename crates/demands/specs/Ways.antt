@@ -11,10 +11,11 @@ use Rattle.frame.specs.Frame.{dataOf}
 use Rattle.memory.specs.Ranges.{within}
 use Rattle.memory.specs.Stores.{kept, replaced, same}
 use Rattle.memory.proofs.Laws.{region-holds}
-use Rattle.tm32.specs.After.{Lent, Telling, callChecks, replied, tell}
+use Rattle.tm32.specs.After.{Telling, callChecks, replied, tell}
 use Rattle.tm32.specs.Checks.{noneFails}
 use Rattle.tm32.specs.Device.{Device, Memory, withFlash, withNvr, withRam}
 use Rattle.tm32.specs.Map.{flashStart, inFlash, inRam, inUserNvr, inUserRegion, nvrLength, nvrStart, ramStart, userNvrLength, userNvrStart}
+use Rattle.tm32.specs.Promises.{Lent}
 use Rattle.tm32.specs.Request.{requestIn}
 use Rattle.tm32.specs.Respond.{Answered, answered, greet, hello, isGone, isWaiting, refuse, replyTo, respond}
 use Rattle.tm32.specs.Results.{noHandshake}

@@ -7,9 +7,10 @@ use lib.Dec.{eqb}
 use lib.ListN.{length}
 use borrow.Author.Tests.{eq-eqb, ne-eqb}
 use Rattle.frame.specs.Frame.{frame, laid}
-use Rattle.tm32.specs.After.{Laid, after, callChecks, lay, layAnswer, leaves, tell, turnOf}
+use Rattle.tm32.specs.After.{after, callChecks, lay, tell}
 use Rattle.tm32.specs.Checks.{verdict}
 use Rattle.tm32.specs.Device.{Device, crcStart, deviceOf, memoryOf}
+use Rattle.tm32.specs.Promises.{Laid, layAnswer, leaves, turnOf}
 use Rattle.tm32.specs.Respond.{Answered, answered, refuse, replyTo, respond, serve, verdictOn}
 use Rattle.tm32.specs.Results.{workDone}
 use Rattle.tm32.specs.Work.{work, worked}

@@ -1,21 +1,18 @@
 -- Document 01, "When nothing is done": what is tested of a call before anything else, and where the reply is laid.
-use Prim.Native.Nat.{ℕ, _+_, _≤_}
-use mathlib.Core.Path.{_≡_}
+use Prim.Native.Nat.{ℕ, _+_}
 use mathlib.Core.Bool.{cond, not}
 use mathlib.Core.List.{List, [], _∷_}
 use lib.Dec.{eqb, ltb}
 use lib.ListN.{length}
 use Rattle.frame.specs.Frame.{laid, overhead}
 use Rattle.tm32.specs.Checks.{Check, check, mostBytes, verdict}
-use Rattle.tm32.specs.Device.{Device, Memory, deviceOf, memoryOf}
+use Rattle.tm32.specs.Device.{Device}
 use Rattle.tm32.specs.Map.{flashLength, nvrLength, ramLength}
 use Rattle.tm32.specs.Rates.{isRate}
 use Rattle.tm32.specs.Respond.{respond, Answered}
 use Rattle.tm32.specs.declared.Answer.{Answer}
 use Rattle.tm32.specs.declared.Answer.the-variants.{Reply, Refused}
-use Rattle.tm32.specs.declared.Session.{Session}
 use Rattle.tm32.specs.declared.Settings.{Settings}
-use Rattle.tm32.specs.declared.Turn.{Turn}
 
 -- How long a lent reply buffer must be at least: room for a frame with as much data as a Read gives.
 abbrev pub replyRoom : ℕ
@@ -67,32 +64,8 @@ unfoldable pub lay : List ℕ → Device → Told → After
 lay buffer device (replied bytes) = afterOf device (Reply (length bytes)) (laid bytes buffer)
 lay buffer device (noReply number) = afterOf device (Refused number) buffer
 
--- The same of what comes of a message that is heard.
-abbrev pub layAnswer : List ℕ → Answered → After
-layAnswer buffer response = lay buffer (response .device) (replied (response .reply))
-
 -- What a message does to a device and to the lent reply buffer.
 unfoldable pub after : Settings → Device → List ℕ → List ℕ → After
 after settings device message buffer =
     let outcome : Telling = tell settings device message (length buffer) in
     lay buffer (outcome .device) (outcome .told)
-
--- What the code hands back: the session, and the answer beside it.
-abbrev pub turnOf : Session → Answer → Turn
-turnOf session answer = record { session = session; answer = answer }
-
--- That what is lent has the lengths of the map, and room for any reply.
-pub record Lent (memory : Memory) (room : ℕ) : Type 0 where
-  pub flash : length (memory .flash) ≡ flashLength
-  pub ram : length (memory .ram) ≡ ramLength
-  pub nvr : length (memory .nvr) ≡ nvrLength
-  pub space : replyRoom ≤ room
-
--- The same of what the code hands back, beside the memory and the buffer that were lent to it.
-abbrev pub leaves : Turn → List ℕ → List ℕ → List ℕ → List ℕ → After
-leaves turn flash ram nvr buffer = afterOf (deviceOf (turn .session) (memoryOf flash ram nvr)) (turn .answer) buffer
-
--- A session beside a reply that was laid over a buffer.
-pub record Laid (turn : Turn) (after : List ℕ) (session : Session) (reply buffer : List ℕ) : Type 0 where
-  pub handed : turn ≡ turnOf session (Reply (length reply))
-  pub over : after ≡ laid reply buffer

@@ -13,6 +13,7 @@ pub mod Checks
 pub mod Work
 pub mod Respond
 pub mod After
+pub mod Promises
 pub mod Run
 pub mod OptionMessages
 pub mod Fresh

@@ -7,9 +7,10 @@ ghost use mathlib.Core.List.{[]};
 ghost use Prim.Native.Nat.{_≤_};
 ghost use lib.ListN.{length};
 ghost use Rattle.frame.specs.Frame.{frame};
-ghost use Rattle.tm32.specs.After.{Laid, replyRoom};
+ghost use Rattle.tm32.specs.After.{replyRoom};
 ghost use Rattle.tm32.specs.Checks.{mostBytes};
 ghost use Rattle.tm32.specs.Device.{crcStart};
+ghost use Rattle.tm32.specs.Promises.{Laid};
 
 // What a CRC of this chip starts from.
 pub(crate) const CRC_START: u16 = 0;

@@ -6,9 +6,10 @@ use denote.Ref.{now}
 use lib.ListN.{length}
 use borrow.Author.Needs.{needs}
 use borrow.Author.Tests.{eq-eqb, le-ltb, lt-ltb, ne-eqb, not-false, not-true}
-use Rattle.tm32.specs.After.{Lent, callChecks}
+use Rattle.tm32.specs.After.{callChecks}
 use Rattle.tm32.specs.Checks.{verdict}
 use Rattle.tm32.specs.Device.{Device, deviceOf, memoryOf}
+use Rattle.tm32.specs.Promises.{Lent}
 use Rattle.tm32.specs.Rates.{isRate}
 use Rattle.tm32.proofs.Answers.{heard, unheard}
 use Rattle.tm32.proofs.Session.answer.Statement.{statement}

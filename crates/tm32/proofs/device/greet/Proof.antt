@@ -7,7 +7,7 @@ use denote.Ref.{now}
 use lib.ListN.{length, set}
 use borrow.Author.Needs.{needs}
 use Rattle.frame.specs.Frame.{laid}
-use Rattle.tm32.specs.After.{turnOf}
+use Rattle.tm32.specs.Promises.{turnOf}
 use Rattle.tm32.specs.declared.Answer.the-variants.{Reply}
 use Rattle.tm32.specs.declared.Session.{Session}
 use Rattle.tm32.proofs.device.greet.Statement.{statement}

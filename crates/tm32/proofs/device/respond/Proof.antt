@@ -9,8 +9,8 @@ use borrow.Author.Needs.{needs}
 use borrow.Author.Tests.{eq-eqb, ne-eqb}
 use Rattle.frame.specs.Frame.{dataOf}
 use Rattle.memory.specs.Stores.{same}
-use Rattle.tm32.specs.After.{layAnswer}
 use Rattle.tm32.specs.Device.{Device, deviceOf, memoryOf}
+use Rattle.tm32.specs.Promises.{layAnswer}
 use Rattle.tm32.specs.Request.{requestIn}
 use Rattle.tm32.specs.Respond.{answered, greet, hello, isGone, isWaiting, refuse, respond, serve}
 use Rattle.tm32.specs.Results.{noHandshake}

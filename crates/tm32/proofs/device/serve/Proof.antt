@@ -5,9 +5,9 @@ use mathlib.Core.Path.{_≡_, sym, ap, _∙_}
 use denote.Ref.{now}
 use lib.ListN.{length}
 use borrow.Author.Needs.{needs}
-use Rattle.tm32.specs.After.{layAnswer}
 use Rattle.tm32.specs.Checks.{checksOf, verdict}
 use Rattle.tm32.specs.Device.{Device, deviceOf, memoryOf}
+use Rattle.tm32.specs.Promises.{layAnswer}
 use Rattle.tm32.specs.Respond.{verdictOn}
 use Rattle.tm32.specs.Results.{workDone}
 use Rattle.tm32.proofs.Answers.{answers, refuses, serves}

@@ -8,11 +8,11 @@ use denote.Ref.{now}
 use lib.ListN.{drop, length}
 use borrow.Author.Needs.{needs}
 use Rattle.frame.specs.Frame.{dataOf}
-use Rattle.tm32.specs.After.{Lent}
 use Rattle.tm32.specs.Checks.{checksOf, noneFails}
 use Rattle.tm32.specs.Device.{Device, Memory, deviceOf, memoryOf}
 use Rattle.tm32.specs.Map.{inUserRegion}
 use Rattle.tm32.specs.Options.{optionBytes}
+use Rattle.tm32.specs.Promises.{Lent}
 use Rattle.tm32.specs.Results.{workDone}
 use Rattle.tm32.specs.Work.{readback, withOptions, work, worked, written}
 use Rattle.tm32.specs.declared.Request.{Request}
