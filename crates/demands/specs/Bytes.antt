@@ -27,8 +27,8 @@ use Rattle.tm32.specs.declared.Request.the-variants.{Pps, Get, Read, Write, Mem
 use Rattle.tm32.specs.declared.Settings.{Settings}
 use Rattle.tm32.proofs.Accepted.{Shaped, erase-accepted, of-both, write-accepted}
 use Rattle.tm32.proofs.Written.{pages-fit, wiped-length}
+use Rattle.tm32.proofs.Verdicts.{passAll}
 use Rattle.demands.specs.Ways.{Heard, Known, Stored, fits, greeted, heard-so, intoFlash, intoNvr, intoRam, memory-after, nvr-fits, reply-told, silent, stored-so, turnedAway, unshaken, workedOn}
-use Rattle.demands.specs.FirstFailing.{passAll}
 use Rattle.demands.specs.Refused.{one-of-so}
 use Rattle.demands.specs.Replies.{isResult, refusal-result, results, unshaken-result, work-result}
 

@@ -1,21 +1,20 @@
 -- Document 01, "A message and its reply" and "When nothing is done": the first check that fails gives its number, whatever the list of checks is. Then the same of a call and of a request.
 use Prim.Native.Nat.{ℕ}
-use mathlib.Core.Bool.{Bool, true, false, cond, not, _&&_, and-eq-true-iff, false≢true, true≢false}
+use mathlib.Core.Bool.{Bool, true, false, cond, not, and-eq-true-iff, true≢false}
 use mathlib.Core.List.{List, [], _∷_, _++_, append-nil}
 use mathlib.Core.Path.{_≡_, refl, sym, ap, _∙_}
-use borrow.Author.Tests.{eqb-true, not-true}
+use borrow.Author.Tests.{not-true}
 use lib.Dec.{eqb}
 use Rattle.tm32.specs.After.{Telling, callChecks, noReply, replied, tell, telling}
-use Rattle.tm32.specs.Checks.{Check, checksOf, noneFails, verdict}
+use Rattle.tm32.specs.Checks.{Check, checksOf, noneFails, numbersOf, verdict}
 use Rattle.tm32.specs.Device.{Device}
 use Rattle.tm32.specs.Options.{optionBytes}
 use Rattle.tm32.specs.Respond.{Answered, refuse, replyTo, respond, serve, verdictOn}
 use Rattle.tm32.specs.Results.{workDone}
 use Rattle.tm32.specs.Work.{work}
-use Rattle.tm32.specs.declared.Link.{Link}
 use Rattle.tm32.specs.declared.Request.{Request}
 use Rattle.tm32.specs.declared.Settings.{Settings}
-use Rattle.demands.specs.Order.{follows, in-order, numbersOf, order}
+use Rattle.tm32.proofs.Verdicts.{Unnumbered, isNot, passAll, request-others}
 
 -- That a number is that of the first check that fails: those before it pass, and it does not.
 pub record FirstFailing (list : List Check) (number : ℕ) : Type 0 where
@@ -31,15 +30,6 @@ pub record FirstFailing (list : List Check) (number : ℕ) : Type 0 where
 pub data Tells (passed : ℕ) (list : List Check) (number : ℕ) : Type 0 where
   allPass : noneFails list ≡ true → number ≡ passed → Tells passed list number
   oneFails : FirstFailing list number → Tells passed list number
-
--- Whether some numbers all pass a test.
-unfoldable pub passAll : (ℕ → Bool) → List ℕ → Bool
-passAll test [] = true
-passAll test (first ∷ rest) = test first && passAll test rest
-
--- Whether a number is not a given one.
-unfoldable pub isNot : ℕ → ℕ → Bool
-isNot other number = not (eqb number other)
 
 -- All the checks of a request to a device, in order.
 abbrev pub requestChecks : Device → Request → List Check
@@ -114,7 +104,7 @@ number-so test list number pass found =
     ∙ numbered-so test (found .before) (found .one) (found .rest) (ap (λ (others : List Check). passAll test (numbersOf others)) (sym (found .split)) ∙ pass)
 
 -- where none of the numbers is the one of a pass, it does not come either
-pub not-passed : (passed : ℕ) (list : List Check) (number : ℕ) → passAll (isNot passed) (numbersOf list) ≡ true → FirstFailing list number → eqb number passed ≡ false
+pub not-passed : (passed : ℕ) (list : List Check) (number : ℕ) → Unnumbered passed list → FirstFailing list number → eqb number passed ≡ false
 unfolding isNot
 not-passed passed list number pass found = not-true (eqb number passed) (number-so (isNot passed) list number pass found)
 
@@ -127,7 +117,7 @@ pub data Called (settings : Settings) (device : Device) (message : List ℕ) (ro
   unheard : (number : ℕ) → FirstFailing (callChecks device room) number → Called settings device message room (telling device (noReply number))
 
 -- no check of a call has the number 0
-pub call-numbers : (device : Device) (room : ℕ) → passAll (isNot 0) (numbersOf (callChecks device room)) ≡ true
+pub call-numbers : (device : Device) (room : ℕ) → Unnumbered 0 (callChecks device room)
 unfolding passAll numbersOf isNot callChecks
 call-numbers device room = refl
 
@@ -167,33 +157,6 @@ module _ (settings : Settings) (device : Device) (message : List ℕ) (room : �
 
 -- ---- a request
 
-module _ (test : ℕ → Bool) where
-  -- one more number that follows a list, by whether it is the first of the list
-  by-next : (number next : ℕ) (numbers list : List ℕ) → test next ≡ true → (follows numbers list ≡ true → passAll test numbers ≡ true)
-      → (follows (number ∷ numbers) list ≡ true → passAll test (number ∷ numbers) ≡ true) → (found : Bool) → eqb number next ≡ found
-      → cond found (follows numbers list) (follows (number ∷ numbers) list) ≡ true → passAll test (number ∷ numbers) ≡ true
-  unfolding passAll
-  by-next number next numbers list pass rest later true same is = and-eq-true-iff (test number) _ .1 (ap test (eqb-true number next same) ∙ pass, rest is)
-  by-next number next numbers list pass rest later false other is = later is
-
-  -- numbers that come in the order of a list pass a test that all of the list pass
-  follow-so : (numbers list : List ℕ) → passAll test list ≡ true → follows numbers list ≡ true → passAll test numbers ≡ true
-  unfolding follows passAll
-  follow-so [] list pass is = refl
-  follow-so (number ∷ numbers) [] pass is = absurd (false≢true is)
-  follow-so (number ∷ numbers) (next ∷ list) pass is =
-      let both = and-eq-true-iff (test next) (passAll test list) .0 pass in
-      by-next number next numbers list (both .0) (follow-so numbers list (both .1)) (follow-so (number ∷ numbers) list (both .1)) (eqb number next) refl is
-
-  -- so a test that all numbers of 01's order pass is passed by the number of every check of a request
-  pub order-so : passAll test order ≡ true → (link : Link) (options : List ℕ) (request : Request) → passAll test (numbersOf (checksOf link options request)) ≡ true
-  order-so pass link options request = follow-so (numbersOf (checksOf link options request)) order pass (in-order link options request)
-
--- no check of a request has the number of work done
-pub request-numbers : (link : Link) (options : List ℕ) (request : Request) → passAll (isNot workDone) (numbersOf (checksOf link options request)) ≡ true
-unfolding passAll isNot order
-request-numbers link options request = order-so (isNot workDone) refl link options request
-
 -- The two ways of a request: it is refused with the number of the first check that fails, or worked on.
 pub data Served (settings : Settings) (device : Device) (payload : List ℕ) (request : Request) : Answered → Type 0 where
   refused : (number : ℕ) → FirstFailing (requestChecks device request) number → Served settings device payload request (refuse device number)
@@ -204,7 +167,7 @@ module _ (settings : Settings) (device : Device) (payload : List ℕ) (request :
   pub request-fails : (number : ℕ) → FirstFailing (requestChecks device request) number → serve settings device payload request ≡ refuse device number
   unfolding serve verdictOn
   request-fails number found =
-      let numbers = request-numbers (device .session .link) (optionBytes (device .memory .nvr)) request in
+      let numbers = request-others (device .session .link) (optionBytes (device .memory .nvr)) request in
       rw (first-fails workDone (requestChecks device request) number found, not-passed workDone (requestChecks device request) number numbers found)
 
   -- where none does, it is worked on

@@ -19,8 +19,9 @@ use Rattle.tm32.specs.declared.Request.{Request}
 use Rattle.tm32.specs.declared.Request.the-variants.{Pps, Get, Read, Write, MemoryCrc, Erase, Go, WriteOptions, ReadOptions, HeartBeat, Misshapen}
 use Rattle.tm32.specs.declared.Settings.{Settings}
 use Rattle.tm32.proofs.Accepted.{of-both}
+use Rattle.tm32.proofs.Verdicts.{passAll}
 use Rattle.demands.specs.Ways.{Heard, greeted, heard-so, silent, turnedAway, unshaken, workedOn}
-use Rattle.demands.specs.FirstFailing.{Called, call-failed, call-fails, called, heard, passAll, unheard}
+use Rattle.demands.specs.FirstFailing.{Called, call-failed, call-fails, called, heard, unheard}
 
 -- Whether a number is one of some.
 unfoldable pub isOneOf : List ℕ → ℕ → Bool

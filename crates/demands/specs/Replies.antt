@@ -24,10 +24,10 @@ use Rattle.tm32.specs.declared.Request.{Request}
 use Rattle.tm32.specs.declared.Request.the-variants.{Pps, Get, Read, Write, MemoryCrc, Erase, Go, WriteOptions, ReadOptions, HeartBeat, Misshapen}
 use Rattle.tm32.specs.declared.Settings.{Settings}
 use Rattle.tm32.proofs.Accepted.{of-both, read-accepted}
+use Rattle.tm32.proofs.Verdicts.{of-numbers, passAll}
 use Rattle.tm32.proofs.Written.{part-length, read-length}
 use Rattle.demands.specs.Ways.{Heard, greeted, heard-so, reply-told, silent, turnedAway, unshaken, workedOn}
-use Rattle.demands.specs.FirstFailing.{FirstFailing, number-so, order-so, passAll, requestChecks}
-use Rattle.demands.specs.Order.{order}
+use Rattle.demands.specs.FirstFailing.{FirstFailing, number-so, requestChecks}
 use Rattle.demands.specs.Refused.{isOneOf}
 
 -- 01's table of results.
@@ -53,9 +53,9 @@ pub record Sized (settings : Settings) : Type 0 where
 
 -- a request is refused with a number of the table
 pub refusal-result : (device : Device) (request : Request) (number : ℕ) → FirstFailing (requestChecks device request) number → isResult number ≡ true
-unfolding passAll isResult isOneOf results order
+unfolding passAll isResult isOneOf results
 refusal-result device request number found =
-    number-so isResult (requestChecks device request) number (order-so isResult refl (device .session .link) (optionBytes (device .memory .nvr)) request) found
+    number-so isResult (requestChecks device request) number (of-numbers (λ numbers. passAll isResult numbers ≡ true) refl refl refl refl refl refl refl (device .session .link) (optionBytes (device .memory .nvr)) request) found
 
 -- and before the handshake too
 pub unshaken-result : isResult noHandshake ≡ true

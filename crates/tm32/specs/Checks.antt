@@ -1,7 +1,7 @@
 -- Document 01, "A message and its reply" and "Who may touch which page": the checks, in order, and what becomes of them.
 use Prim.Native.Nat.{ℕ, _+_, _-_}
 use mathlib.Core.Bool.{Bool, true, false, cond, not, _&&_}
-use mathlib.Core.List.{List, [], _∷_, _++_}
+use mathlib.Core.List.{List, [], _∷_, _++_, map}
 use lib.Dec.{eqb, ltb}
 use Rattle.memory.specs.declared.PageRun.{PageRun}
 use Rattle.memory.specs.Pages.{pages, somePage, touched}
@@ -33,6 +33,10 @@ verdict passed (first ∷ rest) = cond (first .fails) (first .number) (verdict p
 unfoldable pub noneFails : List Check → Bool
 noneFails [] = true
 noneFails (first ∷ rest) = not (first .fails) && noneFails rest
+
+-- The numbers of some checks.
+unfoldable pub numbersOf : List Check → List ℕ
+numbersOf = map (λ (one : Check). one .number)
 
 -- Only a UART has a rate to set.
 abbrev pub isUart : Link → Bool

@@ -1,7 +1,7 @@
 -- `tm32::checks::erase_verdict` meets its contract: two lists of checks, one behind the other.
 use mathlib.Core.Path.{sym, _∙_}
 use borrow.Author.Needs.{needs}
-use Rattle.tm32.proofs.Verdicts.{first-decides, read-others, second-decides}
+use Rattle.tm32.proofs.Verdicts.{first-list-decides, read-others, second-list-decides}
 use Rattle.tm32.proofs.checks.erase_verdict.Statement.{statement}
 use Rattle.tm32.proofs.checks.erase_verdict.Tie as tie
 
@@ -11,7 +11,7 @@ read-verdict-requires c κs = search needs
 returns : tie.Need-returns
 returns c =
     let looked = c .before .read-verdict .ensures in
-    looked ∙ sym (first-decides _ _ _ (λ same. c .if1 .taken (looked ∙ same)))
+    looked ∙ sym (first-list-decides _ _ _ (λ same. c .if1 .taken (looked ∙ same)))
 
 write-verdict-requires : tie.Need-write-verdict-requires
 write-verdict-requires c κs = search needs
@@ -20,7 +20,7 @@ returns-2 : tie.Need-returns-2
 returns-2 c =
     let first = c .before in
     c .write-verdict .ensures
-    ∙ sym (second-decides _ _ _ (read-others _ _) (sym (first .before .read-verdict .ensures) ∙ first .if1 .left))
+    ∙ sym (second-list-decides _ _ _ (read-others _ _) (sym (first .before .read-verdict .ensures) ∙ first .if1 .left))
 
 pub erase-verdict-spec : {M : Type 1} → statement M
 erase-verdict-spec =
