@@ -19,9 +19,10 @@ use Rattle.tm32.specs.declared.Request.{Request}
 use Rattle.tm32.specs.declared.Request.the-variants.{Pps, Get, Read, Write, MemoryCrc, Erase, Go, WriteOptions, ReadOptions, HeartBeat, Misshapen}
 use Rattle.tm32.specs.declared.Settings.{Settings}
 use Rattle.tm32.proofs.Accepted.{of-both}
+use Rattle.tm32.proofs.Answers.{without-reply}
 use Rattle.tm32.proofs.Verdicts.{passAll}
 use Rattle.demands.specs.Ways.{Heard, greeted, heard-so, silent, turnedAway, unshaken, workedOn}
-use Rattle.demands.specs.FirstFailing.{Called, call-failed, call-fails, called, heard, unheard}
+use Rattle.demands.specs.FirstFailing.{Called, called, heard, unheard}
 
 -- Whether a number is one of some.
 unfoldable pub isOneOf : List ℕ → ℕ → Bool
@@ -105,9 +106,7 @@ module _ (settings : Settings) (device : Device) (message : List ℕ) (number : 
 module _ (settings : Settings) (device : Device) (message : List ℕ) (number : ℕ) where
   -- a call without a reply leaves the device as it was, with any lengths
   pub without-reply-stays : (room : ℕ) → tell settings device message room .told ≡ noReply number → tell settings device message room .device ≡ device
-  without-reply-stays room is =
-      let found = call-failed settings device message room number is in
-      ap (λ (outcome : Telling). outcome .device) (call-fails settings device message room number found)
+  without-reply-stays room is = without-reply settings device message room number is
 
   -- by the way of the call
   both-stay : (buffer : List ℕ) (outcome : Telling) → Called settings device message (length buffer) outcome → lay buffer (outcome .device) (outcome .told) .answer ≡ Refused number

@@ -8,6 +8,8 @@ mod writer;
 pub use crc16::crc;
 pub use reader::data_of;
 pub use reader::read;
+pub use reader::word_at;
+pub use writer::word;
 pub use writer::write;
 
 // The first byte of every frame.

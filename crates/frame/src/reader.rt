@@ -4,8 +4,7 @@ use crate::OVERHEAD;
 use crate::Reading;
 use crate::crc16::crc;
 ghost use mathlib.Core.Path.{_≡_};
-ghost use Prim.Native.Nat.{_+_, _*_, _<_};
-ghost use lib.ListN.{length};
+ghost use Prim.Native.Nat.{_+_, _*_};
 ghost use Rattle.frame.specs.Frame.{reading, dataOf, wordAt};
 
 // Reads a message as a frame, in one pass over it.
@@ -43,12 +42,19 @@ pub fn data_of(frame: &[u8]) -> &[u8]
     &frame[4..length - 2]
 }
 
-// The number in the two bytes from a place on.
-fn word_at(bytes: &[u8], place: usize) -> u16
-    requires { ⌜ place + 1 < length (now bytes) ⌝ }
+// The number in the two bytes from a place on. What is past the end counts as nought.
+pub fn word_at(bytes: &[u8], place: usize) -> u16
     ensures { λ r. ⌜ r ≡ wordAt (now (bytes .entry)) place ⌝ }
 {
-    joined(bytes[place], bytes[place + 1])
+    if bytes.len() <= place {
+        return 0;
+    }
+    let low = bytes[place];
+    let next = place + 1;
+    if bytes.len() <= next {
+        return joined(low, 0);
+    }
+    joined(low, bytes[next])
 }
 
 // The number of two bytes, the low one first.

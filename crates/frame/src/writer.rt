@@ -39,7 +39,7 @@ fn put(start: u16, second: u8, payload: &[u8], buffer: &mut [u8])
 }
 
 // A number as it stands on the wire, low byte first.
-fn word(number: u16) -> [u8; 2]
+pub fn word(number: u16) -> [u8; 2]
     ensures { λ r. ⌜ r ≡ word number ⌝ }
 {
     [(number % 256) as u8, (number / 256) as u8]

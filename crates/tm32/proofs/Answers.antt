@@ -1,13 +1,14 @@
--- A reply that was laid over the buffer, as the whole of what a message leaves.
+-- A reply that was laid over the buffer, as the whole of what a message leaves; and a call that is told no reply.
 use Prim.Native.Nat.{ℕ}
-use mathlib.Core.Bool.{false}
+use mathlib.Core.Bool.{Bool, true, false, cond}
 use mathlib.Core.List.{List, []}
 use mathlib.Core.Path.{_≡_, refl, sym, ap, ap₂, _∙_}
+use native.Mathlib.Omega.{arith}
 use lib.Dec.{eqb}
 use lib.ListN.{length}
 use borrow.Author.Tests.{eq-eqb, ne-eqb}
 use Rattle.frame.specs.Frame.{frame, laid}
-use Rattle.tm32.specs.After.{after, callChecks, lay, tell}
+use Rattle.tm32.specs.After.{after, callChecks, lay, noReply, replied, tell, telling}
 use Rattle.tm32.specs.Checks.{verdict}
 use Rattle.tm32.specs.Device.{Device, crcStart, deviceOf, memoryOf}
 use Rattle.tm32.specs.Promises.{Laid, layAnswer, leaves, turnOf}
@@ -68,3 +69,19 @@ module _ (settings : Settings) (device : Device) where
   pub heard : (message buffer : List ℕ) → verdict 0 (callChecks device (length buffer)) ≡ 0 → layAnswer buffer (respond settings device message) ≡ after settings device message buffer
   unfolding after tell
   heard message buffer told = simp told
+
+-- ---- a call without a reply
+
+-- of two tellings, only the second has no reply
+no-reply : (test : Bool) (one other : Device) (bytes : List ℕ) (number told : ℕ) → cond test (telling one (replied bytes)) (telling other (noReply number)) .told ≡ noReply told
+    → cond test (telling one (replied bytes)) (telling other (noReply number)) .device ≡ other
+no-reply true one other bytes number told is =
+    let nought-is-one : _≡_ {A = ℕ} 0 1 = cc in
+    absurd (omega arith)
+no-reply false one other bytes number told is = refl
+
+-- a call without a reply leaves the device as it was, with any lengths
+pub without-reply : (settings : Settings) (device : Device) (message : List ℕ) (room number : ℕ) → tell settings device message room .told ≡ noReply number
+    → tell settings device message room .device ≡ device
+unfolding tell
+without-reply settings device message room number is = no-reply (eqb (verdict 0 (callChecks device room)) 0) _ device _ _ number is

@@ -45,7 +45,7 @@ const HELLO: u8 = 0x7F;
 const HELLO_BACK: u8 = 0x79;
 
 // How long a lent reply buffer must be at least.
-const REPLY_ROOM: usize = 1030;
+pub const REPLY_ROOM: usize = 1030;
 
 impl Session {
     // A message: the session from then on, beside the length of the reply that stands at the start of the lent buffer, or a

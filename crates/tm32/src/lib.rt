@@ -19,6 +19,12 @@ mod sessions;
 mod write;
 mod write_options;
 
+// How long the memory is that is lent for a message, and the reply buffer at least.
+pub use device::REPLY_ROOM;
+pub use map::FLASH_LENGTH;
+pub use map::NVR_LENGTH;
+pub use map::RAM_LENGTH;
+
 // Where a session stands.
 pub enum State {
     // No handshake yet.

@@ -10,17 +10,17 @@ pub(crate) const PAGE_COUNT: u32 = 32;
 // The user flash.
 pub(crate) const FLASH_START: u32 = 0x08000000;
 
-pub(crate) const FLASH_LENGTH: u32 = 32768;
+pub const FLASH_LENGTH: u32 = 32768;
 
 // The user RAM.
 pub(crate) const RAM_START: u32 = 0x20001C00;
 
-pub(crate) const RAM_LENGTH: u32 = 9216;
+pub const RAM_LENGTH: u32 = 9216;
 
 // NVR1 to NVR6.
 pub(crate) const NVR_START: u32 = 0x1FFF0000;
 
-pub(crate) const NVR_LENGTH: u32 = 6144;
+pub const NVR_LENGTH: u32 = 6144;
 
 // NVR5 and NVR6.
 const USER_NVR_START: u32 = 0x1FFF1000;

@@ -68,7 +68,7 @@ fn read_in(payload: &[u8]) -> Request
         (Request.Read (longAt (now (payload .entry)) 0) (wordAt (now (payload .entry)) 4)) ⌝ }
 {
     let address = long_at(payload, 0);
-    let count = word_at(payload, 4) as u32;
+    let count = frame::word_at(payload, 4) as u32;
     exactly(6, payload, Request::Read { address, count })
 }
 
@@ -78,7 +78,7 @@ fn memory_crc_in(payload: &[u8]) -> Request
 {
     let address = long_at(payload, 0);
     let count = long_at(payload, 4);
-    let crc = word_at(payload, 8);
+    let crc = frame::word_at(payload, 8);
     exactly(
         10,
         payload,
@@ -94,8 +94,8 @@ fn erase_in(payload: &[u8]) -> Request
     ensures { λ r. ⌜ r ≡ exactlyIs 4 (now (payload .entry))
         (Request.Erase (wordAt (now (payload .entry)) 0) (wordAt (now (payload .entry)) 2)) ⌝ }
 {
-    let first = word_at(payload, 0) as u32;
-    let count = word_at(payload, 2) as u32;
+    let first = frame::word_at(payload, 0) as u32;
+    let count = frame::word_at(payload, 2) as u32;
     exactly(4, payload, Request::Erase { first, count })
 }
 
@@ -155,15 +155,10 @@ fn long_at(bytes: &[u8], place: usize) -> u32
     requires { ⌜ place < 8 ⌝ }
     ensures { λ r. ⌜ r ≡ longAt (now (bytes .entry)) place ⌝ }
 {
-    long(word_at(bytes, place), word_at(bytes, place + 2))
-}
-
-// The number in the two bytes from a place on.
-fn word_at(bytes: &[u8], place: usize) -> u16
-    requires { ⌜ place < 16 ⌝ }
-    ensures { λ r. ⌜ r ≡ wordAt (now (bytes .entry)) place ⌝ }
-{
-    word(byte_at(bytes, place), byte_at(bytes, place + 1))
+    long(
+        frame::word_at(bytes, place),
+        frame::word_at(bytes, place + 2),
+    )
 }
 
 // The byte at a place, and 0 where there is none.
@@ -176,15 +171,9 @@ fn byte_at(bytes: &[u8], place: usize) -> u8
     0
 }
 
-// Two halves of 16 bits as a number of 32, and two bytes as one of 16.
+// Two halves of 16 bits as a number of 32.
 fn long(low: u16, high: u16) -> u32
     ensures { λ r. ⌜ r ≡ low + 65536 * high ⌝ }
 {
     (low as u32) + 65536 * (high as u32)
-}
-
-fn word(low: u8, high: u8) -> u16
-    ensures { λ r. ⌜ r ≡ low + 256 * high ⌝ }
-{
-    (low as u16) + 256 * (high as u16)
 }
