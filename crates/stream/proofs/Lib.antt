@@ -1,0 +1,2 @@
+-- What callers of `fill` go by.
+pub mod Laws
