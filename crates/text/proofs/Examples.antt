@@ -1,0 +1,62 @@
+-- Lines of text, worked out by the checker; buffers of eight bytes start as noughts. And every byte, written in hex and read back.
+use mathlib.Core.Path.{_≡_, refl}
+use mathlib.Core.Bool.{Bool, true, _&&_}
+use mathlib.Core.List.{List, [], _∷_}
+use Prim.Native.Nat.{ℕ, zero, suc}
+use lib.Dec.{eqb}
+use lib.ListN.{getD, length, replicate}
+use Rattle.frame.specs.Crc.{polynomial, shifted, bitDone, bitsDone, byteDone, crc}
+use Rattle.frame.specs.Frame.{word, covered, frame, laid, writing}
+use Rattle.text.specs.Hex.{isBlank, digitOf, digitFor, hexFrom, hexOf, reading, bytesIn}
+use Rattle.text.specs.Lines.{Outcome, lined, plain, framed, commanding, framing, outcome, isCommand, messageIn}
+use Rattle.text.specs.declared.Line.the-variants.{Nothing, Message, NotHex, NoCommand}
+
+clear : List ℕ
+clear = replicate 8 0
+
+came : List ℕ → Outcome
+came line = messageIn line clear clear
+
+-- "7f # hello"
+one-byte : came (0x37 ∷ 0x66 ∷ 0x20 ∷ 0x23 ∷ 0x20 ∷ 0x68 ∷ 0x65 ∷ []) ≡ outcome clear (lined (Message 1) (0x7F ∷ replicate 7 0))
+unfolding clear came isBlank digitOf hexFrom reading bytesIn laid plain isCommand messageIn
+one-byte = refl
+
+-- "> 41"
+heart-beat : came (0x3E ∷ 0x20 ∷ 0x34 ∷ 0x31 ∷ [])
+    ≡ outcome (0x41 ∷ replicate 7 0) (lined (Message 6) (0x2D ∷ 0x41 ∷ 0x00 ∷ 0x00 ∷ 0x55 ∷ 0x24 ∷ 0 ∷ 0 ∷ []))
+unfolding clear came isBlank digitOf hexFrom reading bytesIn laid framed commanding framing isCommand messageIn polynomial shifted bitDone bitsDone byteDone crc word covered frame writing
+heart-beat = refl
+
+-- "\t# 12"
+comment : came (0x09 ∷ 0x23 ∷ 0x20 ∷ 0x31 ∷ 0x32 ∷ []) ≡ outcome clear (lined Nothing clear)
+unfolding clear came isBlank digitOf hexFrom reading bytesIn laid plain isCommand messageIn
+comment = refl
+
+-- "4 1": a blank inside a byte
+cut-by-a-blank : came (0x34 ∷ 0x20 ∷ 0x31 ∷ []) ≡ outcome clear (lined (NotHex 1) clear)
+unfolding clear came isBlank digitOf hexFrom reading bytesIn plain isCommand messageIn
+cut-by-a-blank = refl
+
+-- "41 4": a byte that the end of the line cuts in two
+cut-by-the-end : came (0x34 ∷ 0x31 ∷ 0x20 ∷ 0x34 ∷ []) ≡ outcome clear (lined (NotHex 4) clear)
+unfolding clear came isBlank digitOf hexFrom reading bytesIn plain isCommand messageIn
+cut-by-the-end = refl
+
+-- "> #": no command
+no-command : came (0x3E ∷ 0x20 ∷ 0x23 ∷ []) ≡ outcome clear (lined NoCommand clear)
+unfolding clear came isBlank digitOf hexFrom reading bytesIn laid commanding framing isCommand messageIn
+no-command = refl
+
+-- Whether a byte that is written in hex reads back as it was.
+reads-back : ℕ → Bool
+reads-back byte = eqb (length (hexFrom (hexOf byte) 0 .bytes)) 1 && eqb (getD (hexFrom (hexOf byte) 0 .bytes) 0 256) byte
+
+-- Whether all bytes below a number do.
+all-read-back : ℕ → Bool
+all-read-back zero = true
+all-read-back (suc byte) = reads-back byte && all-read-back byte
+
+every-byte : all-read-back 256 ≡ true
+unfolding all-read-back reads-back isBlank digitOf digitFor hexFrom hexOf
+every-byte = refl
