@@ -1,9 +1,19 @@
 // Runs the worked cases of document 01 and prints a line for each: the case in words, then what came of it.
-// What is right stands in the file `stdout` beside src/.
+// The cases of the device stand in the file `stdin` beside src/, and what is right in `stdout`.
+mod bench;
+mod cases;
+mod hex;
+mod input;
+mod lines;
+mod report;
 mod show;
 mod spoiled;
 mod tally;
 mod wire;
+
+use input::Input;
+ghost use mathlib.Core.Path.{_≡_};
+ghost use lib.ListN.{length};
 
 // The house's start value of the CRC.
 const START: u16 = 0;
@@ -18,4 +28,51 @@ fn main() {
     wire::rooms();
     wire::longest();
     wire::too_long();
+    device();
+}
+
+// The cases that stand in standard input.
+fn device() {
+    let mut block = block();
+    match input::read_all(&mut block) {
+        Input::Whole { length } => on_memory(lines::first(&block, length)),
+        Input::TooLong => show::text(b"There are too many cases.\n"),
+        Input::Failed => show::text(b"The cases could not be read.\n"),
+    }
+}
+
+fn on_memory(text: &[u8]) {
+    cases::run(text, &mut flash(), &mut ram(), &mut nvr(), &mut buffer());
+}
+
+// Room for the cases, and what is lent to the device: each a little longer than it should be, so that more can be lent, too.
+// Whoever calls these knows the length and nothing of the bytes, which keeps the proofs short.
+fn block() -> [u8; 65536]
+    ensures { λ r. ⌜ 65536 ≡ length r ⌝ }
+{
+    [0; 65536]
+}
+
+fn flash() -> [u8; 32769]
+    ensures { λ r. ⌜ 32769 ≡ length r ⌝ }
+{
+    [0; 32769]
+}
+
+fn ram() -> [u8; 9217]
+    ensures { λ r. ⌜ 9217 ≡ length r ⌝ }
+{
+    [0; 9217]
+}
+
+fn nvr() -> [u8; 6145]
+    ensures { λ r. ⌜ 6145 ≡ length r ⌝ }
+{
+    [0; 6145]
+}
+
+fn buffer() -> [u8; 1031]
+    ensures { λ r. ⌜ 1031 ≡ length r ⌝ }
+{
+    [0; 1031]
 }

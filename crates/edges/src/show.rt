@@ -2,25 +2,8 @@
 use frame::Reading;
 use frame::Written;
 use libc::STDOUT_FILENO;
-
-const DIGITS: [u8; 16] = [
-    b'0',
-    b'1',
-    b'2',
-    b'3',
-    b'4',
-    b'5',
-    b'6',
-    b'7',
-    b'8',
-    b'9',
-    b'A',
-    b'B',
-    b'C',
-    b'D',
-    b'E',
-    b'F',
-];
+ghost use Prim.Native.Nat.{_+_, _<_, _≤_};
+ghost use lib.ListN.{length};
 
 pub(crate) fn text(words: &[u8]) {
     io::write_all(STDOUT_FILENO, words);
@@ -32,15 +15,68 @@ pub(crate) fn number(value: u64) {
 
 // A byte as two digits of 01's hexadecimal.
 pub(crate) fn byte(value: u8) {
-    let high = (value / 16) as usize;
-    let low = (value % 16) as usize;
-    text(&[DIGITS[high], DIGITS[low]]);
+    text(&text::hex_of(value));
 }
 
 // A number of 16 bits as four digits.
 pub(crate) fn word(value: u16) {
     byte((value / 256) as u8);
     byte((value % 256) as u8);
+}
+
+// A number of 32 bits as eight digits.
+pub(crate) fn long(value: u32) {
+    word((value / 65536) as u16);
+    word((value % 65536) as u16);
+}
+
+// Bytes as 01 prints them, and more than sixteen of one value as `FF*1024`.
+pub(crate) fn runs(list: &[u8]) {
+    if list.len() == 0 {
+        text(b"none");
+        return;
+    }
+    let mut i = 0;
+    while i < list.len() {
+        let count = run_at(list, i);
+        byte_at(i, list[i]);
+        times(count);
+        i += count;
+    }
+}
+
+fn times(count: usize) {
+    if 1 < count {
+        text(b"*");
+        number(count as u64);
+    }
+}
+
+// How many bytes from a place on are printed as one: more than sixteen of one value, and otherwise just that at the place.
+fn run_at(list: &[u8], place: usize) -> usize
+    requires { ⌜ place < length (now list) ⌝ }
+    ensures { λ r. ⌜ (0 < r) × (place + r ≤ length (now (list .entry))) ⌝ }
+{
+    let count = end_of_run(list, place) - place;
+    if 16 < count {
+        return count;
+    }
+    1
+}
+
+// Where the bytes end that have the value of the one at a place.
+fn end_of_run(list: &[u8], place: usize) -> usize
+    requires { ⌜ place < length (now list) ⌝ }
+    ensures { λ r. ⌜ (place < r) × (r ≤ length (now (list .entry))) ⌝ }
+{
+    let mut end = place + 1;
+    while end < list.len() {
+        if list[end] != list[place] {
+            return end;
+        }
+        end += 1;
+    }
+    end
 }
 
 // Bytes as 01 prints them, with a space between two.

@@ -1,5 +1,6 @@
 // Frames on the wire: 01, "A message and its reply".
 use crate::START;
+use crate::lines;
 use crate::show;
 use crate::spoiled::Way;
 use crate::spoiled::tried;
@@ -21,12 +22,41 @@ pub(crate) fn sums() {
 pub(crate) fn printed(frame: [u8; 6]) {
     read(START, &frame);
     write(START, frame[1], b"", &mut [0xEE; 8]);
-    tried(frame, Way::Byte(0), 255).shown(b"byte 0 changed");
-    tried(frame, Way::Byte(1), 255).shown(b"byte 1 changed");
-    tried(frame, Way::Byte(2), 255).shown(b"byte 2 changed");
-    tried(frame, Way::Byte(3), 255).shown(b"byte 3 changed");
-    tried(frame, Way::Byte(4), 255).shown(b"byte 4 changed");
-    tried(frame, Way::Byte(5), 255).shown(b"byte 5 changed");
+    changed_bytes(frame);
+    other_ways(frame);
+}
+
+// Each byte of the frame changed.
+fn changed_bytes(frame: [u8; 6]) {
+    let mut place = 0;
+    while place < 6 {
+        changed_byte(frame, place);
+        place += 1;
+    }
+}
+
+fn changed_byte(frame: [u8; 6], place: usize) {
+    let digit = b'0' + (place % 10) as u8;
+    let words = [
+        b'b',
+        b'y',
+        b't',
+        b'e',
+        b' ',
+        digit,
+        b' ',
+        b'c',
+        b'h',
+        b'a',
+        b'n',
+        b'g',
+        b'e',
+        b'd',
+    ];
+    tried(frame, Way::Byte(place), 255).shown(&words);
+}
+
+fn other_ways(frame: [u8; 6]) {
     tried(frame, Way::Cut, 1).shown(b"cut short by one");
     tried(frame, Way::Appended, 256).shown(b"one byte appended");
     tried(frame, Way::Head, 255).shown(b"another head, CRC anew");
@@ -59,14 +89,16 @@ pub(crate) fn rooms() {
 
 // As much data as two bytes of length can say.
 pub(crate) fn longest() {
-    let payload = long_payload();
-    let mut buffer = long_buffer();
+    long_frame(&long_payload(), &mut long_buffer());
+}
+
+fn long_frame(payload: &[u8], buffer: &mut [u8]) {
     show::text(b"65535 bytes of data: ");
-    show::written(frame::write(START, 0x12, &payload[0..65535], &mut buffer));
+    show::written(frame::write(START, 0x12, lines::first(payload, 65535), buffer));
     show::text(b"; from byte 65538 on: ");
-    show::bytes(&buffer[65538..]);
+    show::bytes(lines::behind(buffer, 65538));
     show::text(b"; read: ");
-    show::reading(frame::read(START, &buffer[0..65541]));
+    show::reading(frame::read(START, lines::first(buffer, 65541)));
     show::text(b"\n");
 }
 
