@@ -1,8 +1,8 @@
 // What a line of the cases says. The first lines of the file `stdin` tell how they are written.
-use crate::START;
 use crate::hex;
 use crate::hex::Bytes;
 use frame::Written;
+use text::CRC_START;
 
 // What a line is, by its first character.
 pub(crate) const HEADING: u8 = b'*';
@@ -126,7 +126,7 @@ fn framed(told: &[u8], room: &mut [u8]) -> Bytes {
     if told.len() == 0 {
         return Bytes::Wrong;
     }
-    match frame::write(START, told[0], &told[1..], room) {
+    match frame::write(CRC_START, told[0], &told[1..], room) {
         Written::Frame(length) => Bytes::Told { count: length },
         _ => Bytes::Wrong,
     }

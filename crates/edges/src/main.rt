@@ -15,9 +15,6 @@ use input::Input;
 ghost use mathlib.Core.Path.{_≡_};
 ghost use lib.ListN.{length};
 
-// The house's start value of the CRC.
-const START: u16 = 0;
-
 fn main() {
     wire::sums();
     wire::printed([0x2D, 0x41, 0x00, 0x00, 0x55, 0x24]);
@@ -33,7 +30,7 @@ fn main() {
 
 // The cases that stand in standard input.
 fn device() {
-    let mut block = block();
+    let mut block = io::large_buffer();
     match input::read_all(&mut block) {
         Input::Whole { length } => on_memory(lines::first(&block, length)),
         Input::TooLong => show::text(b"There are too many cases.\n"),
@@ -45,14 +42,8 @@ fn on_memory(text: &[u8]) {
     cases::run(text, &mut flash(), &mut ram(), &mut nvr(), &mut buffer());
 }
 
-// Room for the cases, and what is lent to the device: each a little longer than it should be, so that more can be lent, too.
-// Whoever calls these knows the length and nothing of the bytes, which keeps the proofs short.
-fn block() -> [u8; 65536]
-    ensures { λ r. ⌜ 65536 ≡ length r ⌝ }
-{
-    [0; 65536]
-}
-
+// What is lent to the device: each a little longer than it should be, so that more can be lent, too. Whoever calls these knows the
+// length and nothing of the bytes, which keeps the proofs short.
 fn flash() -> [u8; 32769]
     ensures { λ r. ⌜ 32769 ≡ length r ⌝ }
 {

@@ -49,6 +49,11 @@ impl Tally {
     // A line of it, behind the case in words: each count that is not nought.
     pub(crate) fn shown(self, words: &[u8]) {
         show::text(b"  ");
+        self.counts(words);
+    }
+
+    // The rest of such a line, behind the last of the words.
+    pub(crate) fn counts(self, words: &[u8]) {
         show::text(words);
         counted(self.sound, b" sound");
         counted(self.at_head, b" spoiled at 0");

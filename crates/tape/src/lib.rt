@@ -6,10 +6,14 @@ mod script;
 mod starting;
 
 pub use blocks::keep_rest;
+pub use player::ERROR;
+pub use player::REPLY;
 pub use player::play;
+pub use records::HEAD_LENGTH;
 pub use records::body_of;
 pub use records::head_of;
 pub use records::record_in;
+pub use script::MESSAGE;
 pub use starting::fresh;
 pub use starting::fresh_settings;
 use tm32::Session;

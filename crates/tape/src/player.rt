@@ -25,9 +25,9 @@ ghost use Rattle.tape.specs.Promises.{Closes, Stands, Stepped, offAt, on
 ghost use Rattle.tape.specs.Records.{headLength, headOf, recordOf};
 
 // The kinds of a reply and of an error.
-const REPLY: u16 = 2;
+pub const REPLY: u16 = 2;
 
-const ERROR: u16 = 0x00FF;
+pub const ERROR: u16 = 0x00FF;
 
 // The room that the record of a reply may need.
 const RECORD_ROOM: usize = HEAD_LENGTH + REPLY_ROOM;

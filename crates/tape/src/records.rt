@@ -4,7 +4,7 @@ ghost use mathlib.Core.Path.{_≡_};
 ghost use Rattle.tape.specs.Records.{bodyIn, headOf, recordIn};
 
 // How long a head is.
-pub(crate) const HEAD_LENGTH: usize = 4;
+pub const HEAD_LENGTH: usize = 4;
 
 // What stands at the start of a tape.
 pub fn record_in(tape: &[u8]) -> Found

@@ -7,7 +7,7 @@ ghost use mathlib.Core.Path.{_≡_};
 ghost use Rattle.tape.specs.Script.{cut as cutIs, judged as judgedIs, nextIn};
 
 // The kind of a message, and the most that its body may have.
-const MESSAGE: u16 = 1;
+pub const MESSAGE: u16 = 1;
 
 const MOST_BODY: u16 = 2048;
 

@@ -3,6 +3,7 @@ mod lines;
 mod reader;
 mod writer;
 
+pub use lines::CRC_START;
 pub use lines::line_end;
 pub use lines::message_in;
 pub use reader::bytes_in;

@@ -11,7 +11,7 @@ ghost use Rattle.text.specs.Lines.{commanding, isCommand, lineEnd, lined
 const MARK: u8 = b'>';
 
 // The house's start value of the CRC.
-const CRC_START: u16 = 0;
+pub const CRC_START: u16 = 0;
 
 // Where the line that starts at a place of a text ends: at its newline, or where the text does.
 pub fn line_end(text: &[u8], from: usize) -> usize

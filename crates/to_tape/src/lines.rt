@@ -4,11 +4,10 @@ use crate::Step;
 use crate::tell;
 use std::num::wrapping_add_u64;
 use stream::Sheet;
+use tape::MESSAGE;
 use text::Line;
 
-// The kind of a message's record, and the most that its head can say of a body.
-const MESSAGE: u16 = 1;
-
+// The most that a head can say of a body.
 const LONGEST: usize = 65535;
 
 // The lines that end in the text.

@@ -5,20 +5,12 @@ use crate::words;
 use frame::Reading;
 use libc::STDERR_FILENO;
 use stream::Sheet;
+use tape::ERROR;
 use tape::Found;
-
-// How long a record's head is.
-const HEAD_LENGTH: usize = 4;
-
-// The kinds: a message, a reply, and the player's word that the tape is wrong.
-const MESSAGE: u16 = 1;
-
-const REPLY: u16 = 2;
-
-const ERROR: u16 = 0x00FF;
-
-// The house's start value of the CRC.
-const CRC_START: u16 = 0;
+use tape::HEAD_LENGTH;
+use tape::MESSAGE;
+use tape::REPLY;
+use text::CRC_START;
 
 // The records that stand whole on the tape.
 pub(crate) fn whole(tape: &[u8], paper: &mut [u8]) -> Passed {
