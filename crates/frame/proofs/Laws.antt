@@ -5,6 +5,7 @@
 --     answered                               the other way round: what is known where it answers with a length
 --     written-is-read, answered-is-read      a frame reads as sound, with the second byte and the data that it was made of
 --     read-was-written, read-once            a sound frame is the frame of its second byte and its data, and the only one
+--     whole-again                            a number of 16 bits is what its two bytes make
 --     length-message, length-data, short-data, length-frame     lengths
 --     frame-bytes, data-bytes                frames and their data are made of bytes
 --     none-bytes, more-bytes, joined-bytes, last-bytes, word-bytes     and so are no bytes, one more, two lists joined, the end of one, and a number of 16 bits
@@ -28,6 +29,7 @@ use Rattle.frame.proofs.Passed
 use Rattle.frame.proofs.Places
 pub use Rattle.frame.proofs.Places.{length-frame}
 pub use Rattle.frame.proofs.Sums.{crc-fits}
+pub use Rattle.frame.proofs.Words.{whole-again}
 
 -- ---- the CRC
 

@@ -1,4 +1,4 @@
--- Document 01, "A message and its reply": the CRC. It has 16 bits, takes the high bit of each byte first, and is not turned over at the end.
+-- Document 01, "A message and its reply": the CRC. It has 16 bits, takes the high bit of each byte first, and its bits are not inverted at the end.
 -- A running value goes in and the next one comes out; what a CRC starts from is for whoever asks.
 use Prim.Native.Nat.{ℕ, zero, suc, _*_, _%_, _^_}
 use mathlib.Core.Bool.{cond}

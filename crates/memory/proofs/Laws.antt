@@ -1,5 +1,5 @@
 -- The laws of lent memory: what a crate above goes by, with no definition of this crate opened. Each holds of any numbers and any lists.
---     length-part, part-at                   a part of a memory
+--     length-part, part-at, parts-sized, part-same     a part of a memory
 --     length-replaced, part-of-replaced, replaced-inside, replaced-before, replaced-behind, replaced-nothing
 --                                            a memory with other bytes from a place on: these stand there, and every other byte is as it was
 --     length-masked, masked-at, length-kept, kept-at     what programming leaves of bytes that are given
@@ -23,7 +23,7 @@ use borrow.Author.Tests.{le-leb, lt-leb, leb-true, ltb-true, eq-eqb, ne-eqb, eqb
 use lib.Bits.{bitAnd, and-zero-l, and-zero-r, and-le-r}
 use lib.Dec.{eqb, leb, ltb, lit<}
 use lib.ListN.{length, take, drop, getD, replicate, length-take, length-drop, List·getD-eq-default}
-use lib.Seq.{paste, paste-zero, length-paste, drop-paste, length-take-le, getD-take, getD-drop, take-at, drop-at, take-append-seam, take-length}
+use lib.Seq.{paste, paste-zero, length-paste, drop-paste, length-take-le, getD-take, getD-drop, ext-getD, take-at, drop-at, take-append-seam, take-length}
 use Rattle.memory.specs.Pages.{pages, touched, somePage, covers, meets}
 use Rattle.memory.specs.Ranges.{within}
 use Rattle.memory.specs.Stores.{part, replaced, masked, same, kept, holds, Change, change, replacing, outcome, programming}
@@ -45,6 +45,21 @@ length-part memory place count fits = length-take-le count (drop place memory) (
 pub part-at : (memory : List ℕ) (place count i : ℕ) → i < count → getD (part memory place count) i 0 ≡ getD memory (place + i) 0
 unfolding part
 part-at memory place count i inside = getD-take count (drop place memory) i 0 inside ∙ getD-drop place memory i 0
+
+-- parts of memories of one length are of one length
+pub parts-sized : (one other : List ℕ) (place count : ℕ) → length one ≡ length other → length (part one place count) ≡ length (part other place count)
+unfolding part
+parts-sized one other place count sized = simp (length-take, length-drop, sized)
+
+-- two memories of one length that agree on a range have the same part there
+pub part-same : (one other : List ℕ) (place count : ℕ) → length one ≡ length other → ((i : ℕ) → place ≤ i → i < place + count → getD one i 0 ≡ getD other i 0)
+    → part one place count ≡ part other place count
+unfolding part
+part-same one other place count sized agree =
+    ext-getD 0 (part one place count) (part other place count) (parts-sized one other place count sized)
+    (λ i inside.
+    let before : i < count = omega (arith, length-take count (drop place one)) in
+    part-at one place count i before ∙ agree (place + i) (omega arith) (omega arith) ∙ sym (part-at other place count i before))
 
 -- ---- a memory with other bytes from a place on
 

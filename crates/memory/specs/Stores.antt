@@ -16,7 +16,7 @@ part memory place count = take count (drop place memory)
 unfoldable pub replaced : List ℕ → ℕ → List ℕ → List ℕ
 replaced memory place bytes = take place memory ++ bytes ++ drop (place + length bytes) memory
 
--- What programming makes of old bytes: of each byte the bits stay that are also set in the byte given for it.
+-- What programming makes of old bytes: of each byte the bits stay that are also set in the byte given for it. It goes as far as the shorter list.
 unfoldable pub masked : List ℕ → List ℕ → List ℕ
 masked [] given = []
 masked (old ∷ olds) [] = []

@@ -1,27 +1,25 @@
 -- What the player hands back lies inside what it was lent; and where it wants more tape, what it left unused is shorter than a record may be.
 use Prim.Native.Nat.{ℕ, _+_, _-_, _≤_, _<_}
-use mathlib.Core.Bool.{Bool, true, false, cond, not, true≢false}
+use mathlib.Core.Bool.{Bool, true, false, not, true≢false}
 use mathlib.Core.List.{List}
 use mathlib.Core.Path.{_≡_, refl, sym, ap, _∙_}
 use native.Mathlib.Omega.{arith}
-use borrow.Author.Tests.{le-ltb, ltb-false, ltb-true, ne-eqb}
+use borrow.Author.Tests.{le-ltb, ltb-false, ltb-true}
 use lib.Dec.{eqb, ltb}
-use lib.ListN.{length, drop, length-drop}
+use lib.ListN.{length, length-drop}
 use Rattle.frame.specs.Frame.{wordAt}
 use Rattle.tm32.specs.Device.{Device, Memory}
 use Rattle.tm32.specs.declared.Settings.{Settings}
 use Rattle.tm32.proofs.Accepted.{of-both}
 use Rattle.tape.specs.Play.{Left, Playing, leftBy, played, playTape}
-use Rattle.tape.specs.Records.{headLength, recordIn}
-use Rattle.tape.specs.Script.{messageKind, mostBody, nextIn, nextOf}
-use Rattle.tape.specs.declared.Found.{Found}
-use Rattle.tape.specs.declared.Found.the-variants.{Nothing, HeadCut, BodyCut, Whole}
+use Rattle.tape.specs.Records.{headLength}
+use Rattle.tape.specs.Script.{messageKind, mostBody, nextIn}
 use Rattle.tape.specs.declared.Next.{Next}
 use Rattle.tape.specs.declared.Next.the-variants.{Message, Over}
 use Rattle.tape.specs.declared.Played.{Played}
-use Rattle.tape.specs.declared.Stop.{Stop}
 use Rattle.tape.specs.declared.Stop.the-variants.{MoreTape, Room, End, Error, Refused}
 use Rattle.tape.proofs.Laws.{message-fits}
+use Rattle.tape.proofs.Longer.{head-judged}
 use Rattle.tape.proofs.Recording.{laid-fits}
 use Rattle.tape.proofs.Ways.{Goes, closing-stop, cramped, goes-so, onward, over, refused}
 
@@ -37,34 +35,23 @@ wantsMore (Over (Error number)) = false
 wantsMore (Over (Refused number)) = false
 
 -- as many bytes as a record may have at most are no less than one
-module _ (tape : List ℕ) (long : headLength + mostBody ≤ length tape) where
-  -- so the head is whole
-  head-whole : recordIn tape ≡ cond (ltb (length tape) (headLength + wordAt tape 0)) (BodyCut (wordAt tape 0) (wordAt tape 2)) (Whole (wordAt tape 0) (wordAt tape 2))
-  unfolding recordIn
-  head-whole =
-      let some : length tape ≡ 0 → ⊥ = λ none. omega arith in
-      let head : headLength ≤ length tape = omega arith in
-      simp (ne-eqb (length tape) 0 some, le-ltb _ _ head)
-
-  -- and a body that is too long is refused, while another is there
-  by-size : (ends large : Bool) → ltb mostBody (wordAt tape 0) ≡ large → wantsMore (nextIn ends tape) ≡ false
-  unfolding nextOf
-  by-size ends true large =
-      rw head-whole
-      (of-both (λ (found : Found). wantsMore (nextOf ends found) ≡ false) (ltb (length tape) (headLength + wordAt tape 0)) (rw large refl) (rw large refl))
-  by-size ends false small =
+module _ (ends : Bool) (tape : List ℕ) (long : headLength + mostBody ≤ length tape) where
+  -- so a body that is too long is refused, while another is there
+  by-size : (large : Bool) → ltb mostBody (wordAt tape 0) ≡ large → wantsMore (nextIn ends tape) ≡ false
+  by-size true large = rw (head-judged ends tape (omega arith), large)
+  by-size false small =
       let size = ltb-false mostBody (wordAt tape 0) small in
       let there : headLength + wordAt tape 0 ≤ length tape = omega arith in
-      rw (head-whole, le-ltb (length tape) (headLength + wordAt tape 0) there, small)
+      rw (head-judged ends tape (omega arith), small, le-ltb (length tape) (headLength + wordAt tape 0) there)
       (of-both (λ (next : Next). wantsMore next ≡ false) (not (eqb (wordAt tape 2) messageKind)) refl refl)
 
   -- no more is wanted
-  long-enough : (ends : Bool) → wantsMore (nextIn ends tape) ≡ false
-  long-enough ends = by-size ends (ltb mostBody (wordAt tape 0)) refl
+  long-enough : wantsMore (nextIn ends tape) ≡ false
+  long-enough = by-size (ltb mostBody (wordAt tape 0)) refl
 
 short-of : (ends : Bool) (tape : List ℕ) (short : Bool) → ltb (length tape) (headLength + mostBody) ≡ short → nextIn ends tape ≡ Over MoreTape → length tape < headLength + mostBody
 short-of ends tape true short wants = ltb-true _ _ short
-short-of ends tape false long wants = absurd (true≢false (sym (ap wantsMore wants) ∙ long-enough tape (ltb-false _ _ long) ends))
+short-of ends tape false long wants = absurd (true≢false (sym (ap wantsMore wants) ∙ long-enough ends tape (ltb-false _ _ long)))
 
 -- ---- each way of a tape
 

@@ -1,23 +1,24 @@
--- The laws of the tape, record by record: what a message at its start tells, and what is played of it; and how much a block still holds. Callers go by these, with no definition of this crate opened.
+-- The laws of the tape, record by record: what a message at its start tells, that a record which is written reads back, and what is played of it; and how much a block still holds. Callers go by these, with no definition of this crate opened.
 -- Each follows by the tests that the definitions make, in their order. Assumes nothing.
 use Prim.Native.Nat.{ℕ, zero, suc, _+_, _-_, _≤_, _<_, min}
 use mathlib.Core.Bool.{Bool, true, false, cond, not, true≢false}
-use mathlib.Core.List.{List, [], _∷_}
+use mathlib.Core.List.{List, [], _∷_, _++_}
 use mathlib.Core.Path.{_≡_, refl, sym, ap, ap₂, _∙_}
 use native.Mathlib.Nat.{suc-add}
 use native.Mathlib.Omega.{arith}
-use borrow.Author.Tests.{eqb-true, le-ltb, lt-ltb, ltb-false, not-false}
+use borrow.Author.Tests.{eqb-true, le-ltb, lt-ltb, ltb-false, ne-eqb, not-false}
 use lib.Dec.{eqb, ltb}
-use lib.ListN.{length, drop, length-drop, length-take}
-use lib.Seq.{length-take-le}
-use Rattle.frame.specs.Frame.{wordAt}
+use lib.ListN.{length, drop, length-append, length-drop, length-take}
+use lib.Seq.{length-take-le, take-append-seam}
+use Rattle.frame.specs.Frame.{word, wordAt}
+use Rattle.frame.proofs.Laws.{whole-again}
 use Rattle.memory.specs.Stores.{part}
 use Rattle.tm32.specs.After.{noReply, replied, replyRoom, tell}
 use Rattle.tm32.specs.Device.{Device}
 use Rattle.tm32.specs.declared.Settings.{Settings}
 use Rattle.tape.specs.Blocks.{restOf}
 use Rattle.tape.specs.Play.{behind, closing, onward, play, playTape, recordRoom, replyKind, stopped}
-use Rattle.tape.specs.Records.{bodyIn, headLength, recordIn, recordOf}
+use Rattle.tape.specs.Records.{bodyIn, headLength, headOf, recordIn, recordOf}
 use Rattle.tape.specs.Script.{headed, judged, messageKind, mostBody, nextIn, nextOf, script, scriptFrom, scriptOf}
 use Rattle.tape.specs.declared.Found.{Found}
 use Rattle.tape.specs.declared.Found.the-variants.{Nothing, HeadCut, BodyCut, Whole}
@@ -109,6 +110,22 @@ module _ (ends : Bool) (tape : List ℕ) (size : ℕ) (is : nextIn ends tape ≡
   message-body =
       let fits = message-fits in
       length-take-le size (drop headLength tape) (rw (length-drop headLength tape) (omega arith))
+
+-- ---- a record that is written
+
+module _ (kind : ℕ) (body rest : List ℕ) where
+  -- it reads back whole, whatever stands behind it, where its head has room for what it says
+  pub record-again : length body < 65536 → kind < 65536 → recordIn (recordOf kind body ++ rest) ≡ Whole (length body) kind
+  unfolding recordIn recordOf headOf word wordAt
+  record-again short small =
+      let fits : headLength + length body ≤ length (recordOf kind body ++ rest) = omega (arith, length-append body rest) in
+      let head : headLength ≤ length (recordOf kind body ++ rest) = omega arith in
+      simp (ne-eqb (length (recordOf kind body ++ rest)) 0 (λ none. omega arith), whole-again (length body) short, whole-again kind small, le-ltb _ _ head, le-ltb _ _ fits)
+
+  -- and so does its body
+  pub body-again : bodyIn (recordOf kind body ++ rest) (length body) ≡ body
+  unfolding bodyIn recordOf headOf word
+  body-again = take-append-seam body rest
 
 -- ---- the messages of a tape
 

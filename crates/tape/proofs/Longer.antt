@@ -23,7 +23,7 @@ use Rattle.tape.proofs.Laws.{MessageAt, message-fits, message-stands}
 -- ---- by the head
 
 -- What the tests of a body say, where a head is let through.
-abbrev bodyOf : Bool → List ℕ → Next
+abbrev pub bodyOf : Bool → List ℕ → Next
 bodyOf ends tape = cond (ltb (length tape) (headLength + wordAt tape 0)) (cut ends (Error cutShort)) (Message (wordAt tape 0))
 
 module _ (ends : Bool) (tape : List ℕ) where
@@ -35,7 +35,7 @@ module _ (ends : Bool) (tape : List ℕ) where
   by-body false size kind = refl
 
   -- a whole head is judged, and then its body
-  head-judged : headLength ≤ length tape → nextIn ends tape ≡ judged (wordAt tape 0) (wordAt tape 2) (bodyOf ends tape)
+  pub head-judged : headLength ≤ length tape → nextIn ends tape ≡ judged (wordAt tape 0) (wordAt tape 2) (bodyOf ends tape)
   unfolding recordIn
   head-judged whole =
       let some : length tape ≡ 0 → ⊥ = λ none. omega arith in

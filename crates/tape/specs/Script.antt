@@ -66,7 +66,8 @@ unfoldable pub headed : List ℕ → Script → Next → Script
 headed tape rest (Message size) = script (bodyIn tape size ∷ rest .messages) (rest .stop)
 headed tape rest (Over stop) = script [] stop
 
--- The messages of a tape from so many bytes on: those bytes are passed over, then comes a record, of which three more bytes of the head and the body are passed over, and so on.
+-- The messages of a tape from so many bytes on: those bytes are passed over, then comes a record. Its first byte is taken here, so the other three of its
+-- head, and its body, are still to be passed over before the next.
 unfoldable pub scriptFrom : Bool → ℕ → List ℕ → Script
 scriptFrom ends (suc passed) (byte ∷ tape) = scriptFrom ends passed tape
 scriptFrom ends zero (byte ∷ tape) = headed (byte ∷ tape) (scriptFrom ends (3 + wordAt (byte ∷ tape) 0) tape) (nextIn ends (byte ∷ tape))

@@ -17,15 +17,15 @@ unfoldable pub isBlank : ℕ → Bool
 isBlank c = eqb c 0x20 || (eqb c 0x09 || eqb c 0x0D)
 
 -- Whether a character is one of those from a first to a last.
-abbrev pub within : ℕ → ℕ → ℕ → Bool
-within first last c = leb first c && leb c last
+abbrev pub between : ℕ → ℕ → ℕ → Bool
+between first last c = leb first c && leb c last
 
 -- The number that a digit stands for: 0 to 9, and A to F or a to f. Of any other character it is 16.
 unfoldable pub digitOf : ℕ → ℕ
 digitOf c =
-    cond (within 0x30 0x39 c) (c - 0x30)
-    (cond (within 0x41 0x46 c) (c - 0x41 + 10)
-    (cond (within 0x61 0x66 c) (c - 0x61 + 10)
+    cond (between 0x30 0x39 c) (c - 0x30)
+    (cond (between 0x41 0x46 c) (c - 0x41 + 10)
+    (cond (between 0x61 0x66 c) (c - 0x61 + 10)
     16))
 
 -- Whether a character is a digit.

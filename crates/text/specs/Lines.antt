@@ -1,4 +1,4 @@
--- Where a line ends, and a line of text as a message: bytes in hex as they stand; or, behind a >, a command and its data, which are framed with the CRC's start value 0.
+-- Where a line ends, and a line of text as a message: bytes in hex as they stand; or, behind a >, a command and its data, which are framed.
 use Prim.Native.Nat.{ℕ, suc, _+_}
 use mathlib.Core.Bool.{Bool, cond}
 use mathlib.Core.List.{List, [], _∷_}
@@ -13,6 +13,10 @@ use Rattle.text.specs.declared.Hex.{Hex}
 use Rattle.text.specs.declared.Hex.the-variants as hex
 use Rattle.text.specs.declared.Line.{Line}
 use Rattle.text.specs.declared.Line.the-variants.{Nothing, Message, NotHex, NoCommand, TooLong, NoRoom}
+
+-- What the CRC of a frame that is made of text starts from: the house's value.
+abbrev pub crcStart : ℕ
+crcStart = 0
 
 -- The character that ends a line.
 abbrev pub newline : ℕ
@@ -56,7 +60,7 @@ framed written.NoRoom = NoRoom
 unfoldable pub commanding : List ℕ → List ℕ → Lined
 commanding [] message = lined NoCommand message
 commanding (command ∷ payload) message =
-    let outcome : frames.Outcome = writing 0 command payload message in
+    let outcome : frames.Outcome = writing crcStart command payload message in
     lined (framed (outcome .answer)) (outcome .buffer)
 
 -- Behind a >: what an answer of the reader of hex comes to, where it has found some bytes.

@@ -1,8 +1,8 @@
 -- Lists of checks, one behind the other: the first list decides where one of its checks fails, and else the second.
 use Prim.Native.Nat.{ℕ}
 use mathlib.Core.Bool.{Bool, true, false, cond, not, _&&_, and-eq-true-iff}
-use mathlib.Core.List.{List, [], _∷_, _++_}
-use mathlib.Core.Path.{_≡_, refl}
+use mathlib.Core.List.{List, [], _∷_, _++_, map-append}
+use mathlib.Core.Path.{_≡_, refl, sym, subst, _∙_}
 use lib.Dec.{eqb}
 use borrow.Author.Tests.{eqb-false, not-true}
 use Rattle.tm32.specs.Checks.{Check, checks, checksOf, noneFails, numbersOf, protections, readChecks, verdict, writeChecks}
@@ -56,8 +56,39 @@ module _ (passed : ℕ) (second : List Check) where
       let both = and-eq-true-iff (not (eqb (one .number) passed)) _ .0 others in
       ahead-second (one .fails) (one .number) (not-true _ (both .0)) passes (second-list-decides rest (both .1))
 
--- What holds of the numbers that each command's checks have holds of those of every request. PPS, Read and Memory CRC, Write, Erase, Go, what has no shape, and the commands
--- that have no check.
+-- so code that tries the first list, and the second where none of the first fails, gives the number of both
+module _ (passed : ℕ) (first second : List Check) (tried : ℕ) (tries : tried ≡ verdict passed first) where
+  pub first-gives : (tried ≡ passed → ⊥) → tried ≡ verdict passed (first ++ second)
+  first-gives failed = tries ∙ sym (first-list-decides passed second first (λ same. failed (tries ∙ same)))
+
+  pub second-gives : Unnumbered passed first → tried ≡ passed → (number : ℕ) → number ≡ verdict passed second → number ≡ verdict passed (first ++ second)
+  second-gives others passes number gives = gives ∙ sym (second-list-decides passed second first others (sym tries ∙ passes))
+
+-- What holds of the numbers that each command's checks have, before protection and of protection, holds of those of every request. PPS, Read and Memory CRC, Write, Erase, Go, what has no
+-- shape, and the commands that have no check.
+module _ (P : List ℕ → List ℕ → Type 0)
+    (rates : P (wrongLink ∷ wrongRate ∷ []) [])
+    (reads : P (wrongLength ∷ wrongAddress ∷ []) (readProtected ∷ pcropProtected ∷ []))
+    (writes : P (wrongLength ∷ wrongAddress ∷ []) (writeProtected ∷ []))
+    (erases : P (wrongPageCount ∷ wrongAddress ∷ []) (readProtected ∷ pcropProtected ∷ writeProtected ∷ []))
+    (jumps : P (wrongAddress ∷ []) [])
+    (shapeless : P (wrongShape ∷ []) [])
+    (free : P [] []) where
+  pub of-both-numbers : (link : Link) (options : List ℕ) (request : Request) → P (numbersOf (checks link request)) (numbersOf (protections options request))
+  unfolding numbersOf checks protections readChecks writeChecks
+  of-both-numbers link options (Pps code) = rates
+  of-both-numbers link options Get = free
+  of-both-numbers link options (Read address count) = reads
+  of-both-numbers link options (Write flag address count) = writes
+  of-both-numbers link options (MemoryCrc address count wanted) = reads
+  of-both-numbers link options (Erase first count) = erases
+  of-both-numbers link options (Go address) = jumps
+  of-both-numbers link options WriteOptions = free
+  of-both-numbers link options ReadOptions = free
+  of-both-numbers link options HeartBeat = free
+  of-both-numbers link options Misshapen = shapeless
+
+-- the same for all the checks of a request
 module _ (P : List ℕ → Type 0)
     (rates : P (wrongLink ∷ wrongRate ∷ []))
     (reads : P (wrongLength ∷ wrongAddress ∷ readProtected ∷ pcropProtected ∷ []))
@@ -67,18 +98,10 @@ module _ (P : List ℕ → Type 0)
     (shapeless : P (wrongShape ∷ []))
     (free : P []) where
   pub of-numbers : (link : Link) (options : List ℕ) (request : Request) → P (numbersOf (checksOf link options request))
-  unfolding numbersOf checks protections readChecks writeChecks
-  of-numbers link options (Pps code) = rates
-  of-numbers link options Get = free
-  of-numbers link options (Read address count) = reads
-  of-numbers link options (Write flag address count) = writes
-  of-numbers link options (MemoryCrc address count wanted) = reads
-  of-numbers link options (Erase first count) = erases
-  of-numbers link options (Go address) = jumps
-  of-numbers link options WriteOptions = free
-  of-numbers link options ReadOptions = free
-  of-numbers link options HeartBeat = free
-  of-numbers link options Misshapen = shapeless
+  unfolding numbersOf
+  of-numbers link options request =
+      subst P (sym (map-append (λ (one : Check). one .number) (checks link request) (protections options request)))
+      (of-both-numbers (λ before behind. P (before ++ behind)) rates reads writes erases jumps shapeless free link options request)
 
 -- no check of a request has for its number that work was done
 pub request-others : (link : Link) (options : List ℕ) (request : Request) → Unnumbered workDone (checksOf link options request)
@@ -86,15 +109,9 @@ unfolding passAll isNot
 request-others = of-numbers (λ numbers. passAll (isNot workDone) numbers ≡ true) refl refl refl refl refl refl refl
 
 -- nor has one of those before protection, or of those against looking at pages
-others-front : (number : ℕ) (first second : List Check) → Unnumbered number (first ++ second) → Unnumbered number first
-unfolding passAll isNot numbersOf
-others-front number [] second others = refl
-others-front number (one ∷ rest) second others =
-    let both = and-eq-true-iff (not (eqb (one .number) number)) _ .0 others in
-    and-eq-true-iff (not (eqb (one .number) number)) _ .1 (both .0, others-front number rest second (both .1))
-
 pub checks-others : (link : Link) (request : Request) → Unnumbered workDone (checks link request)
-checks-others link request = others-front workDone (checks link request) (protections [] request) (request-others link [] request)
+unfolding passAll isNot
+checks-others link = of-both-numbers (λ before behind. passAll (isNot workDone) before ≡ true) refl refl refl refl refl refl refl link []
 
 pub read-others : (options : List ℕ) (run : PageRun) → Unnumbered workDone (readChecks options run)
 unfolding passAll isNot numbersOf readChecks

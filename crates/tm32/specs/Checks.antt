@@ -24,7 +24,7 @@ pub record Check : Type 0 where
 abbrev pub check : Bool → ℕ → Check
 check fails number = record { fails = fails; number = number }
 
--- The number of the first check that fails, or `passed` where none does. No check has that for its number.
+-- The number of the first check that fails, or `passed` where none does. Whoever asks gives a number for it that no check of the list has.
 unfoldable pub verdict : ℕ → List Check → ℕ
 verdict passed [] = passed
 verdict passed (first ∷ rest) = cond (first .fails) (first .number) (verdict passed rest)
@@ -82,7 +82,7 @@ readChecks options run = check (ltb 0 (run .count) && rdpOn options) readProtect
 unfoldable pub writeChecks : List ℕ → PageRun → List Check
 writeChecks options run = check (somePage (underWrp options) run) writeProtected ∷ []
 
--- Protection. Read and Memory CRC look at pages, Write changes them, and Erase counts as both. The other commands touch no page.
+-- Protection. Read and Memory CRC look at pages, Write changes them, and Erase counts as both. The other commands are free of it; the wipe is part of the work of Write options.
 unfoldable pub protections : List ℕ → Request → List Check
 protections options (Pps code) = []
 protections options Get = []

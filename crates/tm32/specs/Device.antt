@@ -13,7 +13,7 @@ use Rattle.tm32.specs.declared.State.the-variants.{Waiting}
 abbrev pub crcStart : ℕ
 crcStart = 0
 
--- A session. It is put together here and nowhere else.
+-- A session, put together. No other definition does that.
 abbrev pub sessionOf : State → Link → ℕ → Session
 sessionOf state link rate = record { state = state; link = link; rate = rate }
 

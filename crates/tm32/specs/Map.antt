@@ -49,7 +49,7 @@ optionsLength = 22
 abbrev pub blank : ℕ
 blank = 0xFF
 
--- Whether so many bytes from an address on all lie in the one region, or in one of the first two.
+-- Whether so many bytes from an address on all lie in the region that the name says; the last: all in flash or all in RAM.
 abbrev pub inFlash : ℕ → ℕ → Bool
 inFlash address count = within flashStart flashLength address count
 

@@ -13,7 +13,7 @@ use Rattle.tm32.specs.declared.Request.the-variants.{Pps, Get, Read, Wri
 use Rattle.tm32.specs.declared.State.{State}
 use Rattle.tm32.specs.declared.State.the-variants.{Waiting, Talking, Gone}
 
--- Whether a Read that passes the checks of length and address touches an option byte.
+-- Whether a Read passes the checks of length and address, and touches an option byte.
 unfoldable pub readsOptions : ℕ → ℕ → Bool
 readsOptions address count =
     isLength count && inNvr address count && ltb address (optionsStart + optionsLength) && ltb optionsStart (address + count)

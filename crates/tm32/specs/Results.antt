@@ -29,7 +29,7 @@ wrongLength = 0xF2
 abbrev pub wrongPageCount : ℕ
 wrongPageCount = 0xF3
 
--- Not in a region that the command may use.
+-- Not in a region that the command may use; for Erase, past the last page.
 abbrev pub wrongAddress : ℕ
 wrongAddress = 0xF1
 

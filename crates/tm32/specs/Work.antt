@@ -115,5 +115,5 @@ work settings device payload (Go address) = worked workDone [] (withSession devi
 work settings device payload WriteOptions = worked workDone [] (withMemory device (withOptions (device .memory) payload))
 work settings device payload ReadOptions = worked workDone (optionBytes (device .memory .nvr)) device
 work settings device payload HeartBeat = worked workDone [] device
--- The checks let none of these through.
+-- This never comes here: the checks refuse it.
 work settings device payload Misshapen = worked wrongShape [] device

@@ -83,7 +83,7 @@ fn checked(link: Link, request: Request) -> u8
     }
 }
 
-// Protection. Read and Memory CRC look at pages, Write changes them, and Erase does both.
+// Protection. Read and Memory CRC look at pages, Write changes them, and Erase counts as both.
 fn protection(options: &[u8], request: Request) -> u8
     requires { ⌜ length (now options) ≡ optionsLength ⌝ }
     ensures { λ r. ⌜ r ≡ verdictOf workDone (protections (now (options .entry)) request) ⌝ }
@@ -179,7 +179,7 @@ fn write_verdict(options: &[u8], pages: PageRun) -> u8
     WORK_DONE
 }
 
-// Erase looks at pages and changes them.
+// Erase counts as looking at pages and as changing them.
 fn erase_verdict(options: &[u8], pages: PageRun) -> u8
     requires { ⌜ length (now options) ≡ optionsLength ⌝ }
     ensures { λ r. ⌜ r ≡ verdictOf workDone (readChecks (now (options .entry)) pages ++ writeChecks (now (options .entry)) pages) ⌝ }

@@ -75,7 +75,7 @@ impl Session {
     }
 }
 
-// A session, put together here and nowhere else.
+// A session, put together. No other function of this crate does that.
 fn of(state: State, link: Link, rate: u8) -> Session
     ensures { λ r. ⌜ r ≡ sessionOf state link rate ⌝ }
 {

@@ -1,153 +1,56 @@
 -- `to_text::read_on` lends what the block holds, which lies in it.
-use Prim.Native.Nat.{ℕ, _≤_}
-use mathlib.Core.Path.{_≡_, sym}
-use lib.ListN.{length}
 use lib.Seq.{length-take-le}
-use Rattle.stream.specs.declared.Filled.the-variants.{More, End}
 use Rattle.stream.proofs.Laws.{end-inside, more-inside}
 use borrow.Author.Needs.{needs}
 use Rattle.to_text.proofs.read_on.Statement.{statement}
 use Rattle.to_text.proofs.read_on.Tie as tie
 
--- what the block holds after a read lies in it
-module _ (c : tie.After-fill) where
-  more : (held : ℕ) → c .fill .result ≡ More held → held ≤ length (c .fill .last .0)
-  more held is = more-inside _ _ _ _ (c .fill .ensures) held (c .fill .kept .0) is
-
-  whole : c .fill .result ≡ End → c .before .before .before .before .args .before ≤ length (c .fill .last .0)
-  whole is = end-inside _ _ _ _ (c .fill .ensures) (c .fill .kept .0) is
-
-fill-requires : tie.Need-fill-requires
-fill-requires c κs = search needs
-
-enum-known-held : tie.Need-enum-known-held
-enum-known-held c = search needs
-
+-- what the block holds after a read lies in it, where more was read and where the input has ended
 slice-reshare-prefix-whole : tie.Need-slice-reshare-prefix-whole
-slice-reshare-prefix-whole c =
-    let known = c .before in
-    more (known .before .before .before .before) _ (known .held .given .1)
+slice-reshare-prefix-whole c = search more-inside
 
 slice-aggregate-whole : tie.Need-slice-aggregate-whole
-slice-aggregate-whole c =
-    let known = c .before .before in
-    sym (length-take-le _ _ (more (known .before .before .before .before) _ (known .held .given .1)))
-
-whole-requires : tie.Need-whole-requires
-whole-requires c κs = search needs
-
-enum-known-used : tie.Need-enum-known-used
-enum-known-used c = search needs
-
-keep-rest-requires : tie.Need-keep-rest-requires
-keep-rest-requires c κs = search needs
-
-enum-told : tie.Need-enum-told
-enum-told c = search needs
-
-enum-told-2 : tie.Need-enum-told-2
-enum-told-2 c = search needs
+slice-aggregate-whole c = search (needs, length-take-le, more-inside)
 
 slice-reshare-prefix-end : tie.Need-slice-reshare-prefix-end
-slice-reshare-prefix-end c = whole (c .before .before .before .before) (c .enum-told2 .given .1)
+slice-reshare-prefix-end c = search end-inside
 
 slice-aggregate-end : tie.Need-slice-aggregate-end
-slice-aggregate-end c =
-    let known = c .before in
-    sym (length-take-le _ _ (whole (known .before .before .before .before) (known .enum-told2 .given .1)))
+slice-aggregate-end c = search (needs, length-take-le, end-inside)
 
-end-requires : tie.Need-end-requires
-end-requires c κs = search needs
-
-enum-told-3 : tie.Need-enum-told-3
-enum-told-3 c = search needs
-
-slice-aggregate-told : tie.Need-slice-aggregate-told
-slice-aggregate-told c = search needs
-
-told-requires : tie.Need-told-requires
-told-requires c κs = search needs
-
-enum-told-4 : tie.Need-enum-told-4
-enum-told-4 c = search needs
-
-slice-aggregate-told-2 : tie.Need-slice-aggregate-told-2
-slice-aggregate-told-2 c = search needs
-
-told-requires-2 : tie.Need-told-requires-2
-told-requires-2 c κs = search needs
-
-same-length : tie.Need-same-length
-same-length c = search needs
-
-same-length-2 : tie.Need-same-length-2
-same-length-2 c = search needs
-
-returns : tie.Need-returns
-returns c = search needs
-
-same-length-3 : tie.Need-same-length-3
-same-length-3 c = search needs
-
-same-length-4 : tie.Need-same-length-4
-same-length-4 c = search needs
-
-returns-2 : tie.Need-returns-2
-returns-2 c = search needs
-
-same-length-5 : tie.Need-same-length-5
-same-length-5 c = search needs
-
-same-length-6 : tie.Need-same-length-6
-same-length-6 c = search needs
-
-returns-3 : tie.Need-returns-3
-returns-3 c = search needs
-
-same-length-7 : tie.Need-same-length-7
-same-length-7 c = search needs
-
-returns-4 : tie.Need-returns-4
-returns-4 c = search needs
-
-same-length-8 : tie.Need-same-length-8
-same-length-8 c = search needs
-
-returns-5 : tie.Need-returns-5
-returns-5 c = search needs
-
+-- what the search finds: what calls ask that is known here too, and that no call changes the length of a slice
 pub read-on-spec : {M : Type 1} → statement M
 read-on-spec =
     tie.close
     (tie.spec
-    fill-requires
-    enum-known-held
+    (search needs)
+    (search needs)
     slice-reshare-prefix-whole
     slice-aggregate-whole
-    whole-requires
-    enum-known-used
-    keep-rest-requires
-    enum-told
-    enum-told-2
+    (search needs)
+    (search needs)
+    (search needs)
+    (search needs)
+    (search needs)
     slice-reshare-prefix-end
     slice-aggregate-end
-    end-requires
-    enum-told-3
-    slice-aggregate-told
-    told-requires
-    enum-told-4
-    slice-aggregate-told-2
-    told-requires-2
-    same-length
-    same-length-2
-    returns
-    same-length-3
-    same-length-4
-    returns-2
-    same-length-5
-    same-length-6
-    returns-3
-    same-length-7
-    returns-4
-    same-length-8
-    returns-5)
+    (search needs)
+    (search needs)
+    (search needs)
+    (search needs)
+    (search needs)
+    (search needs)
+    (search needs)
+    (search needs)
+    (search needs)
+    (search needs)
+    (search needs)
+    (search needs)
+    (search needs)
+    (search needs)
+    (search needs)
+    (search needs)
+    (search needs)
+    (search needs)
+    (search needs)
+    (search needs))

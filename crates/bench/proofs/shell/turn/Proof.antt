@@ -1,21 +1,17 @@
 -- `bench::shell::turn` is safe: what the player hands back lies inside what it was lent.
 use Prim.Native.Nat.{ℕ, _+_, _-_, _≤_, _<_}
-use mathlib.Core.List.{List}
 use mathlib.Core.Path.{_≡_, sym}
 use native.Mathlib.Omega.{arith}
 use borrow.Author.Needs.{needs}
+use borrow.Rule.Slice.PartMut.{mid-len}
 use denote.Ref.{now}
-use lib.ListN.{length, take, drop, length-drop}
+use lib.ListN.{length, take, drop}
 use lib.Seq.{length-take-le}
 use Rattle.tape.specs.declared.Played.{Played}
 use Rattle.tape.specs.declared.Stop.the-variants.{MoreTape}
 use Rattle.tape.proofs.Handed.{handed-short, handed-used, handed-written}
 use Rattle.bench.proofs.shell.turn.Statement.{statement}
 use Rattle.bench.proofs.shell.turn.Tie as tie
-
--- how long the part of a block is that holds the tape
-part-long : (block : List ℕ) (from held : ℕ) → held ≤ length block → length (take (held - from) (drop from block)) ≡ held - from
-part-long block from held inside = length-take-le (held - from) (drop from block) (rw length-drop (omega arith))
 
 module _ (c : tie.After-slice-known9) where
   abbrev plays : tie.After-play
@@ -35,7 +31,7 @@ module _ (c : tie.After-slice-known9) where
 
   -- the tape that the player was lent
   tape-long : length (take (held - from) (drop from (now (start .args .block)))) ≡ held - from
-  tape-long = part-long _ _ _ (start .pre .1)
+  tape-long = mid-len from held _ (start .pre .1)
 
   used : from + handed .used ≤ held
   used = omega (arith, handed-used _ _ _ _ _ _ _ _ (plays .play .ensures), tape-long, start .pre .0)

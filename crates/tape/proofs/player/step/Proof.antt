@@ -1,27 +1,21 @@
 -- `tape::player::step` meets its contract: what stands next on the tape picks the definition's case.
-use Prim.Native.Nat.{ℕ, _-_, _≤_}
+use Prim.Native.Nat.{ℕ, _-_}
 use mathlib.Core.List.{List}
 use mathlib.Core.Path.{_≡_, sym, ap, _∙_}
 use native.Mathlib.Omega.{arith}
 use borrow.Author.Needs.{needs}
 use denote.Ref.{now}
 use lib.ListN.{length, drop, take, length-drop}
-use lib.Seq.{take-all}
 use Rattle.tape.specs.Records.{bodyIn}
 use Rattle.tape.specs.Script.{nextIn}
 use Rattle.tape.specs.declared.Next.{Next}
 use Rattle.tape.specs.declared.Next.the-variants.{Message}
 use Rattle.tape.specs.declared.Place.{Place}
+use Rattle.tape.proofs.Buffers.{rest-is}
 use Rattle.tape.proofs.Laws.{message-body, message-fits}
 use Rattle.tape.proofs.Stepping.{close-steps, stride-steps}
 use Rattle.tape.proofs.player.step.Statement.{statement}
 use Rattle.tape.proofs.player.step.Tie as tie
-
--- a tape from a place to its end
-rest-is : (place : ℕ) (tape : List ℕ) → take (length tape - place) (drop place tape) ≡ drop place tape
-rest-is place tape =
-    let all : length (drop place tape) ≤ length tape - place = rw length-drop (omega arith) in
-    take-all (length tape - place) (drop place tape) all
 
 module _ (c : tie.After-next-in) where
   abbrev start : tie.Start

@@ -2,9 +2,11 @@
 use Prim.Native.Nat.{ℕ, _+_, _-_, _≤_, _<_}
 use mathlib.Core.List.{List}
 use mathlib.Core.Path.{_≡_, sym, ap, _∙_}
+use native.Mathlib.Nat.{le-refl}
 use native.Mathlib.Omega.{arith}
 use borrow.Author.Needs.{needs}
 use borrow.Author.Tests.{lt-ltb, le-ltb}
+use borrow.Rule.Slice.PartMut.{mid-len}
 use denote.Ref.{now}
 use lib.ListN.{length}
 use Rattle.tm32.specs.After.{Telling, replyRoom, tell}
@@ -17,7 +19,6 @@ use Rattle.tape.specs.declared.Place.{Place}
 use Rattle.tape.specs.declared.Played.{Played}
 use Rattle.tape.specs.declared.Step.the-variants.{Off}
 use Rattle.tape.specs.declared.Stop.the-variants.{Room}
-use Rattle.tape.proofs.Buffers.{rest-long}
 use Rattle.tape.proofs.Striding.{record-short, strides-off, strides-on}
 use Rattle.tape.proofs.player.stride.Statement.{statement}
 use Rattle.tape.proofs.player.stride.Tie as tie
@@ -66,7 +67,7 @@ short : (c : tie.After-answer) → let at = c .before .before in place at .writt
 short c =
     let at = c .before .before in
     let fits = record-short (place at) (buffer at) _ _ _ _ (got at) _ (outcome at .told) _ (at .before .buffer .given .0) (c .answer .given .1) (sends at .send .ensures) in
-    omega (arith, rest-long (place at .written) (buffer at), start at .pre .0)
+    omega (arith, mid-len (place at .written) _ (buffer at) (le-refl _), start at .pre .0)
 
 add-on-2 : tie.Need-add-on-2
 add-on-2 c = omega (arith, short (c .before), start (c .before .before .before) .good .1 .1 .1 .1 .1 .1 .0 .0)

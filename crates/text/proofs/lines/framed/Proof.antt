@@ -10,7 +10,7 @@ use lib.Seq.{take-all}
 use Rattle.frame.specs.Frame as frames
 use Rattle.frame.specs.Frame.{writing}
 use Rattle.frame.specs.declared.Written.{Written}
-use Rattle.text.specs.Lines.{Lined, lined, framed, commanding}
+use Rattle.text.specs.Lines.{Lined, commanding, crcStart, framed, lined}
 use Rattle.text.specs.declared.Line.{Line}
 use Rattle.text.specs.declared.Line.the-variants.{NoCommand}
 use Rattle.text.proofs.lines.framed.Statement.{statement}
@@ -24,12 +24,12 @@ unfolding commanding
 none [] message empty = refl
 none (byte ∷ bytes) message empty = absurd (omega arith)
 
-some : (bytes message : List ℕ) → (length bytes ≡ 0 → ⊥) → sent (writing 0 (getD bytes 0 0) (take (length bytes - 1) (drop 1 bytes)) message) ≡ commanding bytes message
+some : (bytes message : List ℕ) → (length bytes ≡ 0 → ⊥) → sent (writing crcStart (getD bytes 0 0) (take (length bytes - 1) (drop 1 bytes)) message) ≡ commanding bytes message
 unfolding commanding
 some [] message full = absurd (full refl)
 some (command ∷ payload) message full =
     let enough : length payload ≤ length (command ∷ payload) - 1 = omega arith in
-    ap (λ (payload : List ℕ). sent (writing 0 command payload message)) (take-all _ payload enough)
+    ap (λ (payload : List ℕ). sent (writing crcStart command payload message)) (take-all _ payload enough)
 
 module _ (c : tie.After-slice-known2) where
   abbrev at : tie.After-write

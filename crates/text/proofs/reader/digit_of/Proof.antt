@@ -5,17 +5,17 @@ use mathlib.Core.Path.{_≡_}
 use native.Mathlib.Omega.{arith}
 use borrow.Author.Needs.{needs}
 use borrow.Author.Tests.{le-leb, lt-leb}
-use Rattle.text.specs.Hex.{within, digitOf}
+use Rattle.text.specs.Hex.{between, digitOf}
 use Rattle.text.proofs.reader.digit_of.Statement.{statement}
 use Rattle.text.proofs.reader.digit_of.Tie as tie
 
-before-all : (first last c : ℕ) → c < first → within first last c ≡ false
+before-all : (first last c : ℕ) → c < first → between first last c ≡ false
 before-all first last c before = simp (lt-leb _ _ before)
 
-behind-all : (first last c : ℕ) → first ≤ c → last < c → within first last c ≡ false
+behind-all : (first last c : ℕ) → first ≤ c → last < c → between first last c ≡ false
 behind-all first last c past behind = simp (le-leb _ _ past, lt-leb _ _ behind)
 
-inside : (first last c : ℕ) → first ≤ c → c ≤ last → within first last c ≡ true
+inside : (first last c : ℕ) → first ≤ c → c ≤ last → between first last c ≡ true
 inside first last c past upto = simp (le-leb _ _ past, le-leb _ _ upto)
 
 add-result : tie.Need-add-result

@@ -48,6 +48,13 @@ module _ (c : tie.After-slice-known4) where
   shaped : {known : Request} → start .args .request ≡ known → Shaped (dataOf message) known
   shaped named = shaped-as message named (start .pre .1 .0)
 
+  -- work that leaves another session, and work that replies with data
+  session-left : {one other : Session} → one ≡ other → worked workDone [] (deviceOf one memory) ≡ worked workDone [] (deviceOf other memory)
+  session-left is = ap (λ (session : Session). worked workDone [] (deviceOf session memory)) is
+
+  data-sent : {one other : List ℕ} → one ≡ other → worked workDone one device ≡ worked workDone other device
+  data-sent is = ap (λ (bytes : List ℕ). worked workDone bytes device) is
+
 -- ---- PPS
 
 returns : tie.Need-returns
@@ -56,9 +63,7 @@ returns c =
     let reply = c .before .before in
     let rate = reply .before .before in
     let named = rate .before .before in
-    let at = named .before .before in
-    works _ _ _ _ _ _ (named .request .given .1) (reply .reply .ensures)
-    (ap (λ (session : Session). worked workDone [] (deviceOf session (memory at))) (rate .work .ensures))
+    works _ _ _ _ _ _ (named .request .given .1) (reply .reply .ensures) (session-left (named .before .before) (rate .work .ensures))
 
 -- ---- Get
 
@@ -68,9 +73,7 @@ returns-2 c =
     let reply = c .before .before in
     let told = reply .before .before .before in
     let named = told .before in
-    let at = named .before .before in
-    works _ _ _ _ _ _ (named .enum-told .given .1) (reply .reply-with .ensures)
-    (ap (λ (bytes : List ℕ). worked workDone bytes (device at)) (told .work2 .ensures))
+    works _ _ _ _ _ _ (named .enum-told .given .1) (reply .reply-with .ensures) (data-sent (named .before .before) (told .work2 .ensures))
 
 -- ---- Read
 
@@ -95,9 +98,7 @@ returns-3 c =
     let reply = c .before .before in
     let read = reply .before .before in
     let named = read .before .before .before .before .before in
-    let at = named .before .before in
-    works _ _ _ _ _ _ (named .request2 .given .1) (reply .reply-with2 .ensures)
-    (ap (λ (bytes : List ℕ). worked workDone bytes (device at)) (read .work3 .ensures))
+    works _ _ _ _ _ _ (named .request2 .given .1) (reply .reply-with2 .ensures) (data-sent (named .before .before) (read .work3 .ensures))
 
 -- ---- Write
 
@@ -186,9 +187,7 @@ returns-7 c =
     let reply = c .before .before in
     let gone = reply .before .before in
     let named = gone .before .before in
-    let at = named .before .before in
-    works _ _ _ _ _ _ (named .request6 .given .1) (reply .reply5 .ensures)
-    (ap (λ (session : Session). worked workDone [] (deviceOf session (memory at))) (gone .work7 .ensures))
+    works _ _ _ _ _ _ (named .request6 .given .1) (reply .reply5 .ensures) (session-left (named .before .before) (gone .work7 .ensures))
 
 -- ---- Write options
 
@@ -224,9 +223,7 @@ returns-9 c =
     let reply = c .before .before in
     let read = reply .before .before in
     let named = read .before .before in
-    let at = named .before .before in
-    works _ _ _ _ _ _ (named .enum-told3 .given .1) (reply .reply-with3 .ensures)
-    (ap (λ (bytes : List ℕ). worked workDone bytes (device at)) (read .work9 .ensures))
+    works _ _ _ _ _ _ (named .enum-told3 .given .1) (reply .reply-with3 .ensures) (data-sent (named .before .before) (read .work9 .ensures))
 
 returns-10 : tie.Need-returns-10
 unfolding work
@@ -234,9 +231,7 @@ returns-10 c =
     let reply = c .before .before in
     let beat = reply .before .before in
     let named = beat .before in
-    let at = named .before .before in
-    works _ _ _ _ _ _ (named .enum-told4 .given .1) (reply .reply7 .ensures)
-    (ap (λ (session : Session). worked workDone [] (deviceOf session (memory at))) (beat .work10 .ensures))
+    works _ _ _ _ _ _ (named .enum-told4 .given .1) (reply .reply7 .ensures) (session-left (named .before .before) (beat .work10 .ensures))
 
 returns-11 : tie.Need-returns-11
 unfolding work

@@ -30,10 +30,6 @@ kept-reads flash place bytes fits =
     let long : length left ≡ length bytes = length-kept flash place bytes fits in
     ap (part (replaced flash place left) place) (sym long) ∙ part-of-replaced flash place left (omega arith)
 
--- bytes that read back as they were sent are no mistake
-as-sent : (flag : ℕ) (bytes : List ℕ) → workDone ≡ result flag bytes bytes
-as-sent flag bytes = simp (same-itself bytes, and-false)
-
 module _ (flash ram nvr : List ℕ) (flag address : ℕ) (bytes : List ℕ) where
   -- That the three are the memory after the write, and the number is the write's result.
   abbrev Wrote : List ℕ → List ℕ → List ℕ → ℕ → Type 0
@@ -47,6 +43,11 @@ module _ (flash ram nvr : List ℕ) (flag address : ℕ) (bytes : List ℕ) wher
   unfolding readback
   by-readback flash′ ram′ nvr′ number back is reads gives =
       (is, gives ∙ ap (λ (list : List ℕ). result flag list bytes) (sym reads ∙ ap (λ (after : Memory). bytesAt after address (length bytes)) is))
+
+  -- bytes that read back as they were sent are no mistake
+  as-sent : (flash′ ram′ nvr′ : List ℕ) → memoryOf flash′ ram′ nvr′ ≡ written (memoryOf flash ram nvr) address bytes
+      → bytesAt (memoryOf flash′ ram′ nvr′) address (length bytes) ≡ bytes → Wrote flash′ ram′ nvr′ workDone
+  as-sent flash′ ram′ nvr′ is reads = by-readback flash′ ram′ nvr′ workDone bytes is reads (simp (same-itself bytes, and-false))
 
   -- in flash what is kept is read back
   in-flash : inFlash address (length bytes) ≡ true → address - flashStart + length bytes ≤ length flash
@@ -65,10 +66,7 @@ module _ (flash ram nvr : List ℕ) (flag address : ℕ) (bytes : List ℕ) wher
   unfolding written bytesAt
   in-ram outside inside fits done ram′ told =
       let is = stores ram _ bytes fits done ram′ told in
-      by-readback flash ram′ nvr workDone bytes
-      (simp (outside, inside, is))
-      (simp (outside, inside, is, part-of-replaced ram _ bytes fits))
-      (as-sent flag bytes)
+      as-sent flash ram′ nvr (simp (outside, inside, is)) (simp (outside, inside, is, part-of-replaced ram _ bytes fits))
 
   -- and so in NVR
   in-nvr : inFlash address (length bytes) ≡ false → inRam address (length bytes) ≡ false → address - nvrStart + length bytes ≤ length nvr
@@ -76,10 +74,7 @@ module _ (flash ram nvr : List ℕ) (flag address : ℕ) (bytes : List ℕ) wher
   unfolding written bytesAt
   in-nvr outside outside′ fits done nvr′ told =
       let is = stores nvr _ bytes fits done nvr′ told in
-      by-readback flash ram nvr′ workDone bytes
-      (simp (outside, outside′, is))
-      (simp (outside, outside′, is, part-of-replaced nvr _ bytes fits))
-      (as-sent flag bytes)
+      as-sent flash ram nvr′ (simp (outside, outside′, is)) (simp (outside, outside′, is, part-of-replaced nvr _ bytes fits))
 
 -- a range that a write may name, in neither flash nor RAM, lies in NVR5 and NVR6
 in-user-nvr : (address count : ℕ) → inUserRegion address count ≡ true → inFlash address count ≡ false → inRam address count ≡ false → inUserNvr address count ≡ true
@@ -122,103 +117,56 @@ lies-in-nvr c =
     let tests = c .before .before in
     region-holds _ _ _ _ (in-user-nvr _ _ (start (tests .before) .pre .1 .1 .1 .1) (flash-fails tests) (ram-fails c))
 
-cast-count : tie.Need-cast-count
-cast-count c = search needs
-
-in-flash-requires : tie.Need-in-flash-requires
-in-flash-requires c κs = search needs
-
 sub-program : tie.Need-sub-program
 sub-program c = lies-in-flash (c .before) .0
 
-cast-program : tie.Need-cast-program
-cast-program c = search needs
-
 program-requires : tie.Need-program-requires
 program-requires c κs = omega (arith, lies-in-flash (c .before))
-
-same-length : tie.Need-same-length
-same-length c = search needs
 
 returns : tie.Need-returns
 returns c =
     let program = c .before .before in
     let branch = program .before .before in
-    in-flash _ _ _ _ _ _
-    (flash-holds branch)
-    (omega (arith, lies-in-flash branch))
-    _ _
-    (program .program .ensures .0)
-    (program .program .ensures .1)
-
-in-ram-requires : tie.Need-in-ram-requires
-in-ram-requires c κs = search needs
+    in-flash _ _ _ _ _ _ (flash-holds branch) (omega (arith, lies-in-flash branch)) _ _ (program .program .ensures .0) (program .program .ensures .1)
 
 sub-store : tie.Need-sub-store
 sub-store c = lies-in-ram (c .before) .0
-
-cast-store : tie.Need-cast-store
-cast-store c = search needs
-
-store-requires : tie.Need-store-requires
-store-requires c κs = search needs
-
-same-length-2 : tie.Need-same-length-2
-same-length-2 c = search needs
 
 returns-2 : tie.Need-returns-2
 returns-2 c =
     let store = c .before .before in
     let branch = store .before .before in
-    in-ram _ _ _ _ _ _
-    (flash-fails (branch .before .before))
-    (ram-holds branch)
-    (omega (arith, lies-in-ram branch))
-    _ _
-    (store .store .ensures)
+    in-ram _ _ _ _ _ _ (flash-fails (branch .before .before)) (ram-holds branch) (omega (arith, lies-in-ram branch)) _ _ (store .store .ensures)
 
 sub-store-2 : tie.Need-sub-store-2
 sub-store-2 c = omega (arith, lies-in-nvr (c .before))
-
-cast-store-2 : tie.Need-cast-store-2
-cast-store-2 c = search needs
-
-store-requires-2 : tie.Need-store-requires-2
-store-requires-2 c κs = search needs
-
-same-length-3 : tie.Need-same-length-3
-same-length-3 c = search needs
 
 returns-3 : tie.Need-returns-3
 returns-3 c =
     let store = c .before .before in
     let branch = store .before .before in
-    in-nvr _ _ _ _ _ _
-    (flash-fails (branch .before .before))
-    (ram-fails branch)
-    (omega (arith, lies-in-nvr branch))
-    _ _
-    (store .store2 .ensures)
+    in-nvr _ _ _ _ _ _ (flash-fails (branch .before .before)) (ram-fails branch) (omega (arith, lies-in-nvr branch)) _ _ (store .store2 .ensures)
 
+-- what the search finds: what calls ask that is asked here too, and that no call changes the length of a slice
 pub work-spec : {M : Type 1} → statement M
 work-spec =
     tie.close
     (tie.spec
-    cast-count
-    in-flash-requires
+    (search needs)
+    (search needs)
     sub-program
-    cast-program
+    (search needs)
     program-requires
-    same-length
+    (search needs)
     returns
-    in-ram-requires
+    (search needs)
     sub-store
-    cast-store
-    store-requires
-    same-length-2
+    (search needs)
+    (search needs)
+    (search needs)
     returns-2
     sub-store-2
-    cast-store-2
-    store-requires-2
-    same-length-3
+    (search needs)
+    (search needs)
+    (search needs)
     returns-3)
