@@ -1,2 +1,3 @@
--- What callers of `fill` go by.
+-- What callers of `fill` go by, and worked examples.
 pub mod Laws
+mod Examples

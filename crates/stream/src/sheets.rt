@@ -3,7 +3,8 @@
 use crate::Sheet;
 use libc::STDOUT_FILENO;
 ghost use mathlib.Core.Path.{_≡_};
-ghost use Rattle.stream.specs.Sheets.{StaysFailed, emptySheet};
+ghost use lib.ListN.{length};
+ghost use Rattle.stream.specs.Sheets.{Adds, AddsAll, MakesRoom, WritesOut, emptySheet};
 
 impl Sheet {
     pub fn empty() -> Self
@@ -17,7 +18,7 @@ impl Sheet {
 
     // One byte more.
     pub fn byte(self, buffer: &mut [u8], value: u8) -> Self
-        ensures { λ r. ⌜ StaysFailed self r ⌝ }
+        ensures { λ r. ⌜ Adds self (now (buffer .entry)) value r (now (buffer .exit)) ⌝ }
     {
         let sheet = self.with_room(buffer);
         let place = sheet.place;
@@ -33,7 +34,7 @@ impl Sheet {
 
     // Some bytes more.
     pub fn bytes(self, buffer: &mut [u8], values: &[u8]) -> Self
-        ensures { λ r. ⌜ StaysFailed self r ⌝ }
+        ensures { λ r. ⌜ AddsAll self (now (buffer .entry)) (now (values .entry)) r (now (buffer .exit)) ⌝ }
     {
         let mut sheet = self;
         let mut i = 0;
@@ -46,7 +47,7 @@ impl Sheet {
 
     // All of it is written out.
     pub fn written(self, buffer: &[u8]) -> Self
-        ensures { λ r. ⌜ StaysFailed self r ⌝ }
+        ensures { λ r. ⌜ WritesOut self r ⌝ }
     {
         let place = self.place;
         if place <= buffer.len() {
@@ -57,7 +58,7 @@ impl Sheet {
 
     // A full sheet is written out.
     fn with_room(self, buffer: &[u8]) -> Self
-        ensures { λ r. ⌜ StaysFailed self r ⌝ }
+        ensures { λ r. ⌜ MakesRoom (length (now (buffer .entry))) self r ⌝ }
     {
         let place = self.place;
         if place < buffer.len() {
@@ -67,7 +68,7 @@ impl Sheet {
     }
 
     fn after(self, collected: &[u8]) -> Self
-        ensures { λ r. ⌜ StaysFailed self r ⌝ }
+        ensures { λ r. ⌜ WritesOut self r ⌝ }
     {
         if self.failed {
             return self;
