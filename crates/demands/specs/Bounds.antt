@@ -21,7 +21,7 @@ use Rattle.tm32.specs.declared.State.the-variants.{Talking, Gone}
 use Rattle.demands.specs.Cases.{Case, atCode, blankBeside, blankDevice, blankFlash, case, computed, expected, filled, fresh, fullDevice, fullFlash, onBench, pcrop5, pcrop5wrp7, prepared, put, rdp, wrp7}
 use Rattle.demands.specs.Wire.{askErase, askGet, askGo, askMemoryCrc, askPps, askRead, askReadOptions, askWrite, askWriteOptions, done, first, halfwords, handshake, heartBeat, hex, little, message, noPages, off, options, shaken}
 
--- Commands and regions: Get and the option bytes; the last rate; the CRC of the last two bytes of a full flash (0x16AB, worked out apart), and another; the last byte of
+-- Commands and regions: Get and the option bytes; the last rate code, the one above it, 0, and a link without a rate; the CRC of the last two bytes of a full flash (0x16AB, worked out apart), and another; the last byte of
 -- RAM, the first of NVR5, and the last of NVR4, which is not for writing; the last place to jump to, and after the jump nothing is answered.
 unfoldable pub otherCommands : List Case
 otherCommands =
@@ -77,6 +77,6 @@ unfoldable pub boundCases : List Case
 boundCases = otherCommands ++ moreBounds
 
 -- All of them hold.
-all-hold : computed boundCases ≡ expected boundCases
+bounds-hold : computed boundCases ≡ expected boundCases
 unfolding computed expected prepared hex little message halfwords options boundCases otherCommands moreBounds respond greet serve replyTo verdictOn refuse frame covered word crc byteDone bitsDone bitDone shifted polynomial reading wordAt dataOf requestIn readAs requestOf writeIn exactly longAt checks verdict protections readChecks writeChecks flashPages somePage someFrom covers touched within inReadRegion inUserRegion bytesAt part replaced masked kept same rdpOn inEither optionBytes erased wipes wiped withOptions work written readback compared information long commandWord toldCommands freshDevice freshFlash freshRam freshNvr freshOptions freshSettings fromOneTo
-all-hold = refl
+bounds-hold = refl

@@ -130,7 +130,7 @@ memory-bytes settings device message room all given =
 
 -- ---- the reply
 
--- a result of the table is a byte, so its frame is made of bytes
+-- a result that 01 names is a byte, so its frame is made of bytes
 framed-bytes : (number : ℕ) (payload : List ℕ) → isResult number ≡ true → AllBytes payload → AllBytes (frame crcStart number payload)
 unfolding isResult results passAll
 framed-bytes number payload is all =
@@ -174,11 +174,11 @@ module _ (settings : Settings) (all : SettingsBytes settings) where
   -- by the way of the message
   by-way : (device : Device) (message : List ℕ) → MemoryBytes (device .memory) → (answer : Answered) → Heard settings device message answer → AllBytes (answer .reply)
   unfolding greet refuse replyTo
-  by-way device message bytes answer silent = none-bytes
-  by-way device message bytes answer greeted = more-bytes 0x79 [] (lit< tt) none-bytes
-  by-way device message bytes answer unshaken = framed-bytes noHandshake [] unshaken-result none-bytes
-  by-way device message bytes answer (turnedAway number found) = framed-bytes number [] (refusal-result device (requestIn message) number found) none-bytes
-  by-way device message bytes answer (workedOn pass) =
+  by-way device message bytes answer (silent unheeded) = none-bytes
+  by-way device message bytes answer (greeted here hail) = more-bytes 0x79 [] (lit< tt) none-bytes
+  by-way device message bytes answer (unshaken asks waits) = framed-bytes noHandshake [] unshaken-result none-bytes
+  by-way device message bytes answer (turnedAway asks talks number found) = framed-bytes number [] (refusal-result device (requestIn message) number found) none-bytes
+  by-way device message bytes answer (workedOn asks talks pass) =
       let payload = dataOf message in
       framed-bytes _ _ (work-result settings device payload (requestIn message)) (payload-bytes device payload (requestIn message) bytes)
 

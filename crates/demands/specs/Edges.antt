@@ -73,6 +73,6 @@ unfoldable pub workedCases : List Case
 workedCases = asGiven ++ overFullFlash ++ almostRight
 
 -- All of them hold.
-all-hold : computed workedCases ≡ expected workedCases
+edges-hold : computed workedCases ≡ expected workedCases
 unfolding computed expected prepared hex little message halfwords options workedCases asGiven overFullFlash almostRight respond greet serve replyTo verdictOn refuse frame covered word crc byteDone bitsDone bitDone shifted polynomial reading wordAt dataOf requestIn readAs requestOf writeIn exactly longAt checks verdict protections readChecks writeChecks flashPages somePage someFrom covers touched within inReadRegion inUserRegion bytesAt part replaced masked kept same rdpOn inEither optionBytes erased wipes wiped withOptions work written readback freshDevice freshFlash freshRam freshNvr freshOptions freshSettings fromOneTo
-all-hold = refl
+edges-hold = refl

@@ -112,7 +112,7 @@ touching-the-options :
 unfolding hex little message halfwords options freshDevice freshFlash freshRam freshNvr freshOptions replaced callChecks verdict optionMessage isTalking touchesOptions readsOptions within requestIn readAs requestOf exactly longAt reading wordAt dataOf frame covered word crc byteDone bitsDone bitDone shifted polynomial fromOneTo
 touching-the-options = refl
 
--- A device that Waits reads none of them, and nobody does with too little room for the reply.
+-- A device that Waits reads none of them, and no message does where the room for the reply is too small.
 nothing-while-waiting : map (λ (one : List ℕ). optionMessage freshDevice one 1030) (askWriteOptions off ∷ askReadOptions ∷ askRead 0x1FFF0800 1 ∷ []) ≡ false ∷ false ∷ false ∷ []
 unfolding freshDevice freshFlash freshRam freshNvr freshOptions replaced word callChecks verdict optionMessage isTalking fromOneTo
 nothing-while-waiting = refl

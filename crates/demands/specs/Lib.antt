@@ -1,9 +1,11 @@
--- What is shown of the TM32G07x, over the definitions of `tm32` and `tape`. First what is worked out case by case, then what holds of every message, and last what holds of every tape.
+-- What is shown of the TM32G07x, over the definitions of `tm32` and `tape`. First what is worked out case by case, then what holds of every message and of every tape, and last that no two outcomes
+-- satisfy a contract.
 pub mod Wire
 pub mod Cases
 pub mod Edges
 pub mod Bounds
 pub mod Examples
+pub mod WrongAnswers
 pub mod Order
 pub mod FirstFailing
 pub mod Ways
@@ -12,6 +14,21 @@ pub mod Lengths
 pub mod Stays
 pub mod Replies
 pub mod Bytes
+pub mod OnlyThree
+pub mod OtherBits
+pub mod EachNumber
+pub mod Reasons
+pub mod Wipes
 pub mod StillHeard
 pub mod Pieces
 pub mod TapeRuns
+pub mod Tapes
+pub mod TwoDevices
+pub mod OfShape
+pub mod OptionsUnseen
+pub mod ProtectionGrows
+pub mod Grows
+pub mod MoreRights
+pub mod RightsExamples
+pub mod TwoTapes
+pub mod OneOutcome

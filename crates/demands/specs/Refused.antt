@@ -3,16 +3,15 @@ use Prim.Native.Nat.{ℕ}
 use mathlib.Core.Bool.{Bool, true, false, not, _&&_, _||_, and-eq-true-iff, false≢true}
 use mathlib.Core.List.{List, [], _∷_}
 use mathlib.Core.Path.{_≡_, refl, sym, ap, _∙_}
-use native.Mathlib.Omega.{arith}
 use borrow.Author.Tests.{eqb-true}
 use lib.Dec.{eqb}
-use lib.ListN.{length, drop, getD}
-use Rattle.frame.specs.Frame.{covered, dataOf, frame}
+use lib.ListN.{length, drop}
+use Rattle.frame.specs.Frame.{dataOf, frame}
 use Rattle.memory.specs.Stores.{same}
 use Rattle.tm32.specs.After.{Telling, after, lay, noReply, replied, tell}
 use Rattle.tm32.specs.Device.{Device, bytesAt, crcStart}
 use Rattle.tm32.specs.Request.{requestIn}
-use Rattle.tm32.specs.Respond.{Answered, greet, refuse, replyTo, respond}
+use Rattle.tm32.specs.Respond.{Answered, greet, helloBack, refuse, replyTo, respond}
 use Rattle.tm32.specs.Work.{readback, work, written}
 use Rattle.tm32.specs.declared.Answer.the-variants.{Refused}
 use Rattle.tm32.specs.declared.Request.{Request}
@@ -21,7 +20,7 @@ use Rattle.tm32.specs.declared.Settings.{Settings}
 use Rattle.tm32.proofs.Accepted.{of-both}
 use Rattle.tm32.proofs.Answers.{without-reply}
 use Rattle.tm32.proofs.Verdicts.{passAll}
-use Rattle.demands.specs.Ways.{Heard, greeted, heard-so, silent, turnedAway, unshaken, workedOn}
+use Rattle.demands.specs.Ways.{Heard, greeted, heard-so, no-frame, same-number, silent, turnedAway, unshaken, workedOn}
 use Rattle.demands.specs.FirstFailing.{Called, called, heard, unheard}
 
 -- Whether a number is one of some.
@@ -52,7 +51,7 @@ one-of-so test (first ∷ rest) number pass is =
     by-first test first number (both .0) (isOneOf rest number) (one-of-so test rest number (both .1)) (eqb number first) refl is
 
 -- a write is done, with or without readback
-write-is-done : (flag address : ℕ) (bytes : List ℕ) (device : Device) → isRefusal (readback flag address bytes (written (device .memory) address bytes)) ≡ false
+pub write-is-done : (flag address : ℕ) (bytes : List ℕ) (device : Device) → isRefusal (readback flag address bytes (written (device .memory) address bytes)) ≡ false
 unfolding readback isRefusal isOneOf refusals
 write-is-done flag address bytes device =
     let stored = written (device .memory) address bytes in
@@ -75,17 +74,15 @@ module _ (settings : Settings) (device : Device) (payload : List ℕ) where
   work-refused Misshapen is = refl
 
 module _ (settings : Settings) (device : Device) (message : List ℕ) (number : ℕ) (refusal : isRefusal number ≡ true) where
-  -- by the way of the message; a result is the second byte of its frame
+  -- by the way of the message
   by-way : (answer : Answered) → Heard settings device message answer → answer .reply ≡ frame crcStart number [] → answer .device ≡ device
-  unfolding greet refuse replyTo frame covered
-  by-way answer silent is = refl
-  by-way answer greeted is =
-      let head : _≡_ {A = ℕ} 0x79 0x2D = ap (λ (bytes : List ℕ). getD bytes 0 0) is in
-      absurd (omega arith)
-  by-way answer unshaken is = refl
-  by-way answer (turnedAway other found) is = refl
-  by-way answer (workedOn pass) is =
-      let result = ap (λ (bytes : List ℕ). getD bytes 1 0) is in
+  unfolding greet refuse replyTo
+  by-way answer (silent unheeded) is = refl
+  by-way answer (greeted here hail) is = absurd (no-frame helloBack number [] refl is)
+  by-way answer (unshaken asks waits) is = refl
+  by-way answer (turnedAway asks talks other found) is = refl
+  by-way answer (workedOn asks talks pass) is =
+      let result = same-number _ number _ [] is in
       work-refused settings device (dataOf message) (requestIn message) (ap isRefusal result ∙ refusal)
 
   -- a device that replies with a refusal is as it was

@@ -1,13 +1,13 @@
--- Document 01, "A message and its reply": a reply fits the room that is lent for it, and its result is one of 01's table.
+-- Document 01, "A message and its reply": a reply fits the room that is lent for it, and its result is one of those that 01 names.
 use Prim.Native.Nat.{ℕ, _-_, _≤_}
 use mathlib.Core.Bool.{Bool, true, not, _&&_, false≢true}
 use mathlib.Core.List.{List, [], _∷_}
 use mathlib.Core.Path.{_≡_, refl, sym, ap, _∙_}
 use native.Mathlib.Omega.{arith}
 use lib.Dec.{eqb, lit≤}
-use lib.ListN.{length, drop, getD, length-append}
+use lib.ListN.{length, drop, length-append}
 use Rattle.frame.specs.Crc.{crc}
-use Rattle.frame.specs.Frame.{covered, dataOf, frame, word}
+use Rattle.frame.specs.Frame.{dataOf, frame, word}
 use Rattle.frame.proofs.Laws.{length-frame}
 use Rattle.memory.specs.Stores.{same}
 use Rattle.tm32.specs.After.{replied, tell}
@@ -18,7 +18,7 @@ use Rattle.tm32.specs.Numbers.{long}
 use Rattle.tm32.specs.Options.{optionBytes}
 use Rattle.tm32.specs.Request.{requestIn}
 use Rattle.tm32.specs.Respond.{Answered, greet, helloBack, refuse, replyTo, respond}
-use Rattle.tm32.specs.Results.{noHandshake}
+use Rattle.tm32.specs.Results.{noHandshake, readbackDiffers, workDone, wrongCrc, wrongShape}
 use Rattle.tm32.specs.Work.{compared, information, readback, work, written}
 use Rattle.tm32.specs.declared.Request.{Request}
 use Rattle.tm32.specs.declared.Request.the-variants.{Pps, Get, Read, Write, MemoryCrc, Erase, Go, WriteOptions, ReadOptions, HeartBeat, Misshapen}
@@ -26,11 +26,11 @@ use Rattle.tm32.specs.declared.Settings.{Settings}
 use Rattle.tm32.proofs.Accepted.{of-both, read-accepted}
 use Rattle.tm32.proofs.Verdicts.{of-numbers, passAll}
 use Rattle.tm32.proofs.Written.{part-length, read-length}
-use Rattle.demands.specs.Ways.{Heard, greeted, heard-so, reply-told, silent, turnedAway, unshaken, workedOn}
+use Rattle.demands.specs.Ways.{Heard, greeted, heard-so, no-frame, reply-told, same-number, silent, turnedAway, unshaken, workedOn}
 use Rattle.demands.specs.FirstFailing.{FirstFailing, number-so, requestChecks}
 use Rattle.demands.specs.Refused.{isOneOf}
 
--- 01's table of results.
+-- The results that 01 names.
 unfoldable pub results : List ℕ
 results = 0x90 ∷ 0x80 ∷ 0x91 ∷ 0xF5 ∷ 0xF0 ∷ 0xF2 ∷ 0xF3 ∷ 0xF1 ∷ 0x62 ∷ 0x63 ∷ 0x61 ∷ 0xF4 ∷ 0x92 ∷ []
 
@@ -38,7 +38,7 @@ results = 0x90 ∷ 0x80 ∷ 0x91 ∷ 0xF5 ∷ 0xF0 ∷ 0xF2 ∷ 0xF3 ∷ 0xF1 �
 unfoldable pub isResult : ℕ → Bool
 isResult number = isOneOf results number
 
--- What a reply can be: nothing, the answer to the handshake, or the frame of a result of the table.
+-- What a reply can be: nothing, the answer to the handshake, or the frame of such a result.
 pub data Reply : List ℕ → Type 0 where
   nothing : Reply []
   greeting : Reply helloBack
@@ -51,7 +51,7 @@ pub record Sized (settings : Settings) : Type 0 where
 
 -- ---- results
 
--- a request is refused with a number of the table
+-- a request is refused with one of them
 pub refusal-result : (device : Device) (request : Request) (number : ℕ) → FirstFailing (requestChecks device request) number → isResult number ≡ true
 unfolding passAll isResult isOneOf results
 refusal-result device request number found =
@@ -62,35 +62,39 @@ pub unshaken-result : isResult noHandshake ≡ true
 unfolding isResult isOneOf results
 unshaken-result = refl
 
-module _ (settings : Settings) (device : Device) (payload : List ℕ) where
-  -- and work ends with one
-  pub work-result : (request : Request) → isResult (work settings device payload request .result) ≡ true
-  unfolding work isResult isOneOf results readback compared
-  work-result (Pps code) = refl
-  work-result Get = refl
-  work-result (Read address count) = refl
-  work-result (Write flag address count) =
+-- what holds of the four results that work has holds of that of every request
+module _ (P : ℕ → Type 0) (done : P workDone) (differs : P readbackDiffers) (wrong : P wrongCrc) (shapeless : P wrongShape) where
+  pub of-results : (settings : Settings) (device : Device) (payload : List ℕ) (request : Request) → P (work settings device payload request .result)
+  unfolding work readback compared
+  of-results settings device payload (Pps code) = done
+  of-results settings device payload Get = done
+  of-results settings device payload (Read address count) = done
+  of-results settings device payload (Write flag address count) =
       let bytes = drop 5 payload in
       let after = written (device .memory) address bytes in
-      of-both (λ (number : ℕ). isResult number ≡ true) (eqb flag 1 && not (same (bytesAt after address (length bytes)) bytes)) refl refl
-  work-result (MemoryCrc address count wanted) =
-      of-both (λ (number : ℕ). isResult number ≡ true) (eqb (crc crcStart (bytesAt (device .memory) address count)) wanted) refl refl
-  work-result (Erase first count) = refl
-  work-result (Go address) = refl
-  work-result WriteOptions = refl
-  work-result ReadOptions = refl
-  work-result HeartBeat = refl
-  work-result Misshapen = refl
+      of-both P (eqb flag 1 && not (same (bytesAt after address (length bytes)) bytes)) differs done
+  of-results settings device payload (MemoryCrc address count wanted) = of-both P (eqb (crc crcStart (bytesAt (device .memory) address count)) wanted) done wrong
+  of-results settings device payload (Erase first count) = done
+  of-results settings device payload (Go address) = done
+  of-results settings device payload WriteOptions = done
+  of-results settings device payload ReadOptions = done
+  of-results settings device payload HeartBeat = done
+  of-results settings device payload Misshapen = shapeless
+
+-- and work ends with one
+pub work-result : (settings : Settings) (device : Device) (payload : List ℕ) (request : Request) → isResult (work settings device payload request .result) ≡ true
+unfolding isResult isOneOf results
+work-result = of-results (λ (number : ℕ). isResult number ≡ true) refl refl refl refl
 
 module _ (settings : Settings) (device : Device) (message : List ℕ) where
   -- by the way of the message
   by-way : (answer : Answered) → Heard settings device message answer → Reply (answer .reply)
   unfolding greet refuse replyTo
-  by-way answer silent = nothing
-  by-way answer greeted = greeting
-  by-way answer unshaken = framed noHandshake [] unshaken-result
-  by-way answer (turnedAway number found) = framed number [] (refusal-result device (requestIn message) number found)
-  by-way answer (workedOn pass) = framed _ _ (work-result settings device (dataOf message) (requestIn message))
+  by-way answer (silent unheeded) = nothing
+  by-way answer (greeted here hail) = greeting
+  by-way answer (unshaken asks waits) = framed noHandshake [] unshaken-result
+  by-way answer (turnedAway asks talks number found) = framed number [] (refusal-result device (requestIn message) number found)
+  by-way answer (workedOn asks talks pass) = framed _ _ (work-result settings device (dataOf message) (requestIn message))
 
   -- every reply is one of the three
   pub reply-so : Reply (respond settings device message .reply)
@@ -102,16 +106,10 @@ told-so settings device message room bytes is = reply-told settings device messa
 
 -- a frame of another number is none of them
 other-result : (bytes payload : List ℕ) → Reply bytes → bytes ≡ frame crcStart 0x93 payload → ⊥
-unfolding isResult isOneOf results frame covered
-other-result bytes payload nothing is =
-    let head : _≡_ {A = ℕ} 0 0x2D = ap (λ (list : List ℕ). getD list 0 0) is in
-    omega arith
-other-result bytes payload greeting is =
-    let head : _≡_ {A = ℕ} 0x79 0x2D = ap (λ (list : List ℕ). getD list 0 0) is in
-    omega arith
-other-result bytes payload (framed number own table) is =
-    let second = ap (λ (list : List ℕ). getD list 1 0) is in
-    false≢true (ap isResult (sym second) ∙ table)
+unfolding isResult isOneOf results
+other-result bytes payload nothing is = no-frame [] 0x93 payload refl is
+other-result bytes payload greeting is = no-frame helloBack 0x93 payload refl is
+other-result bytes payload (framed number own table) is = false≢true (ap isResult (sym (same-number number 0x93 own payload is)) ∙ table)
 
 -- so no reply has the result 0x93
 pub never-0x93 : (settings : Settings) (device : Device) (message payload : List ℕ) → respond settings device message .reply ≡ frame crcStart 0x93 payload → ⊥
@@ -149,11 +147,11 @@ module _ (settings : Settings) (sized : Sized settings) (device : Device) (messa
   -- by the way of the message
   by-length : (answer : Answered) → Heard settings device message answer → length (answer .reply) ≤ 1030
   unfolding greet refuse replyTo
-  by-length answer silent = lit≤ tt
-  by-length answer greeted = lit≤ tt
-  by-length answer unshaken = omega (arith, length-frame crcStart noHandshake [])
-  by-length answer (turnedAway number found) = omega (arith, length-frame crcStart number [])
-  by-length answer (workedOn pass) =
+  by-length answer (silent unheeded) = lit≤ tt
+  by-length answer (greeted here hail) = lit≤ tt
+  by-length answer (unshaken asks waits) = omega (arith, length-frame crcStart noHandshake [])
+  by-length answer (turnedAway asks talks number found) = omega (arith, length-frame crcStart number [])
+  by-length answer (workedOn asks talks pass) =
       let done = work settings device (dataOf message) (requestIn message) in
       omega (arith, length-frame crcStart (done .result) (done .payload), payload-short settings sized device (dataOf message) (requestIn message) pass)
 

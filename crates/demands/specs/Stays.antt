@@ -78,7 +78,7 @@ record SameByte (old new : Memory) (address : ℕ) : Type 0 where
 -- ---- the byte at an address
 
 -- a test that cannot pass fails
-cannot : (test : Bool) → (test ≡ true → ⊥) → test ≡ false
+pub cannot : (test : Bool) → (test ≡ true → ⊥) → test ≡ false
 cannot true never = absurd (never refl)
 cannot false never = refl
 
@@ -127,7 +127,7 @@ module _ (memory : List ℕ) (start place : ℕ) (bytes : List ℕ) (whole : pla
 -- ---- the work of each command
 
 -- a wipe that does not take place leaves the flash
-not-wiped : (old new : List ℕ) (pages : ℕ) (flash : List ℕ) → (rdpOn old && not (rdpOn new)) ≡ false → wiped old new pages flash ≡ flash
+pub not-wiped : (old new : List ℕ) (pages : ℕ) (flash : List ℕ) → (rdpOn old && not (rdpOn new)) ≡ false → wiped old new pages flash ≡ flash
 unfolding wiped wipes
 not-wiped old new zero flash spared = refl
 not-wiped old new (suc page) flash spared = rw spared (not-wiped old new page flash spared)

@@ -54,11 +54,11 @@ module _ (settings : Settings) (device : Device) (right : isRate (device .sessio
   -- and after every message
   rate-way : (message : List ℕ) (answer : Answered) → Heard settings device message answer → isRate (answer .device .session .rate) ≡ true
   unfolding greet refuse replyTo
-  rate-way message answer silent = right
-  rate-way message answer greeted = right
-  rate-way message answer unshaken = right
-  rate-way message answer (turnedAway number found) = right
-  rate-way message answer (workedOn pass) = work-rate (dataOf message) (requestIn message) pass
+  rate-way message answer (silent unheeded) = right
+  rate-way message answer (greeted here hail) = right
+  rate-way message answer (unshaken asks waits) = right
+  rate-way message answer (turnedAway asks talks number found) = right
+  rate-way message answer (workedOn asks talks pass) = work-rate (dataOf message) (requestIn message) pass
 
 module _ (settings : Settings) (device : Device) (message : List ℕ) (room : ℕ) where
   -- by the way of the call

@@ -1,5 +1,5 @@
--- Messages and bytes for the worked cases. A message is put together from its fields and framed; a reply is written out whole, as it stands on the wire. Two of the replies are printed
--- in document 01, and the CRCs of the others were worked out apart from the definitions under trial (docs/DECISIONS.md says how).
+-- Messages and bytes for the worked cases. A message is put together from its fields and framed; a reply is written out whole, as it stands on the wire. Two of the framed replies are
+-- printed in document 01, and the CRCs of the others were worked out apart from the definitions under trial (docs/DECISIONS.md says how).
 use Prim.Native.Nat.{ℕ, zero, suc, _/_, _%_, _^_}
 use mathlib.Core.List.{List, [], _∷_, _++_}
 use Rattle.frame.specs.Frame.{frame}
