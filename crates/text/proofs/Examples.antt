@@ -1,14 +1,16 @@
--- Lines of text, worked out by the checker; buffers of eight bytes start as noughts. And every byte, written in hex and read back.
-use mathlib.Core.Path.{_≡_, refl}
-use mathlib.Core.Bool.{Bool, true, _&&_}
+-- Lines of text, worked out by the checker; buffers of eight bytes start as noughts. Every byte, written in hex and read back. And mistakes that somebody might make, each told from the
+-- right answer by a question that has another answer (docs/OUTCOMES.md says of which function).
+use mathlib.Core.Path.{_≡_, ap, refl}
+use mathlib.Core.Bool.{Bool, true, _&&_, true≢false}
 use mathlib.Core.List.{List, [], _∷_}
+use mathlib.Core.Logic.{_≢_}
 use Prim.Native.Nat.{ℕ, zero, suc}
 use lib.Dec.{eqb}
 use lib.ListN.{getD, length, replicate}
 use Rattle.frame.specs.Crc.{polynomial, shifted, bitDone, bitsDone, byteDone, crc}
 use Rattle.frame.specs.Frame.{word, covered, frame, laid, writing}
 use Rattle.text.specs.Hex.{isBlank, digitOf, digitFor, hexFrom, hexOf, reading, bytesIn}
-use Rattle.text.specs.Lines.{Outcome, lined, plain, framed, commanding, framing, outcome, isCommand, messageIn}
+use Rattle.text.specs.Lines.{Outcome, lined, plain, framed, commanding, framing, outcome, isCommand, lineEnd, messageIn, untilNewline}
 use Rattle.text.specs.declared.Line.the-variants.{Nothing, Message, NotHex, NoCommand}
 
 clear : List ℕ
@@ -60,3 +62,39 @@ all-read-back (suc byte) = reads-back byte && all-read-back byte
 every-byte : all-read-back 256 ≡ true
 unfolding all-read-back reads-back isBlank digitOf digitFor hexFrom hexOf
 every-byte = refl
+
+-- ---- wrong answers
+
+-- "41", a newline, and "42"
+two-lines : List ℕ
+two-lines = 0x34 ∷ 0x31 ∷ 0x0A ∷ 0x34 ∷ 0x32 ∷ []
+
+-- line_end: the newline counts as part of the line
+newline-in-the-line : lineEnd two-lines 0 ≢ 3
+unfolding two-lines untilNewline
+newline-in-the-line is = true≢false (ap (eqb 2) is)
+
+-- line_end: a place counted from the start of the line, and not of the text
+counted-from-the-line : lineEnd two-lines 3 ≢ 2
+unfolding two-lines untilNewline
+counted-from-the-line is = true≢false (ap (eqb 5) is)
+
+-- message_in: "4 1" read as the byte 0x41, as if the blank were not there
+blank-inside-a-byte : came (0x34 ∷ 0x20 ∷ 0x31 ∷ []) .line .message ≢ 0x41 ∷ replicate 7 0
+unfolding clear came isBlank digitOf hexFrom reading bytesIn plain isCommand messageIn
+blank-inside-a-byte is = true≢false (ap (λ (message : List ℕ). eqb (getD message 0 0) 0) is)
+
+-- message_in: "> 41" sent without its frame
+command-not-framed : came (0x3E ∷ 0x20 ∷ 0x34 ∷ 0x31 ∷ []) .line .message ≢ 0x41 ∷ replicate 7 0
+unfolding clear came isBlank digitOf hexFrom reading bytesIn laid framed commanding framing isCommand messageIn covered frame writing
+command-not-framed is = true≢false (ap (λ (message : List ℕ). eqb (getD message 0 0) 0x2D) is)
+
+-- digit_of: the character behind 9 taken for 10
+colon-is-ten : digitOf 0x3A ≢ 10
+unfolding digitOf
+colon-is-ten is = true≢false (ap (eqb 16) is)
+
+-- hex_of: the low digit first
+low-digit-first : hexOf 0x2D ≢ 0x44 ∷ 0x32 ∷ []
+unfolding hexOf digitFor
+low-digit-first is = true≢false (ap (λ (digits : List ℕ). eqb (getD digits 0 0) 0x32) is)
