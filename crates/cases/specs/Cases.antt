@@ -1,0 +1,100 @@
+-- A worked case: what is sent to which device, and all that must come of it. And the devices and option bytes that the cases start on and end with, put together here apart from the
+-- definitions under trial; only the fresh device is theirs, and the first cases hold it to a list that is put together here.
+use Prim.Native.Nat.{ℕ}
+use mathlib.Core.List.{List, [], _∷_, _++_}
+use lib.ListN.{replicate}
+use Rattle.tm32.specs.Device.{Device, deviceOf, memoryOf, sessionOf, withSession}
+use Rattle.tm32.specs.Fresh.{freshDevice, freshSettings}
+use Rattle.tm32.specs.Respond.{Answered, answered, respond}
+use Rattle.tm32.specs.declared.Link.the-variants.{Uart}
+use Rattle.tm32.specs.declared.State.{State}
+use Rattle.tm32.specs.declared.State.the-variants.{Talking, Waiting}
+use Rattle.cases.specs.Wire.{askWrite, first, handshake, noPages, off, options, second}
+
+-- The device, the messages that prepare it, the message that is tried, the whole reply to it, and the whole device afterwards.
+pub record Case : Type 0 where
+  pub device : Device
+  pub before : List (List ℕ)
+  pub message : List ℕ
+  pub reply : List ℕ
+  pub after : Device
+
+-- The five put together.
+abbrev pub case : Device → List (List ℕ) → List ℕ → List ℕ → Device → Case
+case device before message reply after = record { device = device; before = before; message = message; reply = reply; after = after }
+
+-- A device after some messages.
+unfoldable pub prepared : Device → List (List ℕ) → Device
+prepared device [] = device
+prepared device (message ∷ rest) = prepared (respond freshSettings device message .device) rest
+
+-- What the definitions make of each case, and what is right.
+unfoldable pub computed : List Case → List Answered
+computed [] = []
+computed (one ∷ rest) = respond freshSettings (prepared (one .device) (one .before)) (one .message) ∷ computed rest
+
+unfoldable pub expected : List Case → List Answered
+expected [] = []
+expected (one ∷ rest) = answered (one .after) (one .reply) ∷ expected rest
+
+-- A device on UART at rate code 0x0A, with RAM all nought, in a state, with a flash, and with option bytes in an NVR that is nought otherwise.
+abbrev pub onBench : State → List ℕ → List ℕ → Device
+onBench state flash options = deviceOf (sessionOf state Uart 0x0A) (memoryOf flash (replicate 9216 0) (replicate 2048 0 ++ options ++ replicate 4074 0))
+
+-- A device like that which Talks, with a blank flash, and with some RAM and some NVR.
+abbrev pub blankBeside : List ℕ → List ℕ → Device
+blankBeside ram nvr = deviceOf (sessionOf Talking Uart 0x0A) (memoryOf (replicate 32768 0xFF) ram nvr)
+
+-- A blank flash, as on the fresh device.
+abbrev pub blankFlash : List ℕ
+blankFlash = replicate 32768 0xFF
+
+-- A flash with a byte at the start of page 1, and blank otherwise.
+abbrev pub oneByte : ℕ → List ℕ
+oneByte byte = replicate 1024 0xFF ++ byte ∷ replicate 31743 0xFF
+
+-- The first 31 pages full of 0x5A, with two other bytes: one at the start of page 1, and 0x44 at the end of page 4.
+abbrev pub fullPages : ℕ → List ℕ
+fullPages byte = replicate 1024 0x5A ++ byte ∷ replicate 4094 0x5A ++ 0x44 ∷ replicate 26624 0x5A
+
+-- A full flash: the same, with page 31 full of 0x5A up to its last byte, which is 0x3C.
+abbrev pub fullFlash : ℕ → List ℕ
+fullFlash byte = fullPages byte ++ replicate 1023 0x5A ++ 0x3C ∷ []
+
+-- A blank device that Talks, and a full one, each with some options.
+abbrev pub blankDevice : List ℕ → Device
+blankDevice = onBench Talking blankFlash
+
+abbrev pub fullDevice : List ℕ → Device
+fullDevice = onBench Talking (fullFlash 0x0F)
+
+-- The fresh device, and one with a full flash, after a handshake and some more messages.
+abbrev pub fresh : List (List ℕ) → List ℕ → List ℕ → Device → Case
+fresh before = case freshDevice (handshake ∷ before)
+
+abbrev pub filled : List (List ℕ) → List ℕ → List ℕ → Device → Case
+filled before = case (onBench Waiting (fullFlash 0x0F) off) (handshake ∷ before)
+
+-- A blank device that Talks at some rate code.
+abbrev pub atCode : ℕ → Device
+atCode code = withSession (blankDevice off) (sessionOf Talking Uart code)
+
+-- Option bytes that the cases write.
+abbrev pub pcrop5 : List ℕ
+pcrop5 = options 0xAA (first 5) noPages
+
+abbrev pub rdp : List ℕ
+rdp = options 0x00 noPages noPages
+
+abbrev pub pcrop5wrp7 : List ℕ
+pcrop5wrp7 = options 0xAA (second 5) (second 7)
+
+abbrev pub rdpWrp7 : List ℕ
+rdpWrp7 = options 0x00 noPages (second 7)
+
+abbrev pub wrp7 : List ℕ
+wrp7 = options 0xAA noPages (second 7)
+
+-- A write of one byte at the start of page 1, without readback.
+abbrev pub put : ℕ → List ℕ
+put byte = askWrite 0 0x08000400 (byte ∷ [])

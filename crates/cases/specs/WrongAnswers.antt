@@ -1,0 +1,167 @@
+-- Mistakes that somebody might make, and that the definitions rule out: of each function an outcome that its contract does not admit, worked out by the checker. Each is told from the
+-- right one by a question that has another answer. docs/OUTCOMES.md says which functions they belong to; there stand too the mistakes that are tried on the code.
+-- The last part has mistakes of whole cases of `Edges`. Those of the tape stand in `demands`, in `BenchTape.WrongTapes`.
+use Prim.Native.Nat.{ℕ}
+use mathlib.Core.Bool.{true, false, false≢true, true≢false}
+use mathlib.Core.List.{List, [], _∷_, _++_}
+use mathlib.Core.Logic.{_≢_}
+use mathlib.Core.Path.{ap}
+use lib.Dec.{eqb}
+use lib.ListN.{getD, replicate}
+use Rattle.frame.specs.Crc.{bitDone, bitsDone, byteDone, crc, polynomial, shifted}
+use Rattle.frame.specs.Frame.{covered, dataOf, frame, laid, reading, word, wordAt, writing}
+use Rattle.memory.specs.Pages.{covers, pages, someFrom, somePage, touched}
+use Rattle.memory.specs.Ranges.{within}
+use Rattle.memory.specs.Stores.{holds, kept, masked, part, replaced, replacing, same}
+use Rattle.memory.specs.declared.PageRun.{PageRun}
+use Rattle.tm32.specs.After.{after, callChecks, lay, tell}
+use Rattle.tm32.specs.Checks.{checks, flashPages, isUart, protections, readChecks, verdict, writeChecks}
+use Rattle.tm32.specs.Device.{Device, restart, sessionOf, start}
+use Rattle.tm32.specs.Fresh.{freshDevice, freshFlash, freshNvr, freshOptions, freshRam, freshSettings}
+use Rattle.tm32.specs.Map.{inGoRegion, inReadRegion, inUserRegion}
+use Rattle.tm32.specs.Numbers.{fromOneTo, longAt}
+use Rattle.tm32.specs.Options.{inEither, optionBytes, rdpOn}
+use Rattle.tm32.specs.Rates.{bitsPerSecond, rates}
+use Rattle.tm32.specs.Request.{exactly, readAs, requestIn, requestOf, writeIn}
+use Rattle.tm32.specs.Respond.{greet, isWaiting, refuse, replyTo, respond, serve, verdictOn}
+use Rattle.tm32.specs.Work.{erased, wiped, wipes, withOptions, work, written}
+use Rattle.tm32.specs.declared.Link.the-variants.{Spi, Uart}
+use Rattle.tm32.specs.declared.Session.{Session}
+use Rattle.tm32.specs.declared.State.the-variants.{Talking, Waiting}
+use Rattle.cases.specs.Cases.{fullDevice, fullFlash, onBench, oneByte, pcrop5, prepared, rdpWrp7, wrp7}
+use Rattle.cases.specs.Wire.{askRead, askWrite, askWriteOptions, done, halfwords, handshake, hex, little, message, off, options}
+
+-- ---- frame
+
+-- crc: started from 0xFFFF, as others do
+pub crc-from-ones : crc 0 (hex 9 0x313233343536373839) ≢ 0x29B1
+unfolding hex polynomial shifted bitDone bitsDone byteDone crc
+crc-from-ones is = true≢false (ap (eqb 0x31C3) is)
+
+-- crc: its bits inverted at the end
+pub crc-inverted : crc 0 (hex 9 0x313233343536373839) ≢ 0xCE3C
+unfolding hex polynomial shifted bitDone bitsDone byteDone crc
+crc-inverted is = true≢false (ap (eqb 0x31C3) is)
+
+-- word_at: a last byte without a second one is passed over
+pub half-a-word-dropped : wordAt (0x34 ∷ []) 0 ≢ 0
+unfolding wordAt
+half-a-word-dropped is = true≢false (ap (eqb 0x34) is)
+
+-- word: cut to its low byte
+pub word-cut-to-a-byte : word 0x1234 ≢ 0x34 ∷ 0x00 ∷ []
+unfolding word same
+word-cut-to-a-byte is = true≢false (ap (same (0x34 ∷ 0x12 ∷ [])) is)
+
+-- write: the buffer is cleared behind the frame
+pub write-clears-the-rest : writing 0 0x90 [] (replicate 8 0x11) .buffer ≢ done ++ 0x00 ∷ 0x00 ∷ []
+unfolding hex same writing laid frame covered word polynomial shifted bitDone bitsDone byteDone crc
+write-clears-the-rest is = true≢false (ap (same (done ++ 0x11 ∷ 0x11 ∷ [])) is)
+
+-- write: as much of the frame as fits is written, and then refused
+pub write-begins-and-refuses : writing 0 0x90 [] (replicate 5 0x11) .buffer ≢ hex 5 0x2D900000F1
+unfolding hex same writing
+write-begins-and-refuses is = true≢false (ap (same (replicate 5 0x11)) is)
+
+-- ---- memory
+
+-- within: the last byte of a range is not asked for
+pub end-not-asked-for : within 0x08000000 0x8000 0x08007FFF 2 ≢ true
+unfolding within
+end-not-asked-for is = false≢true is
+
+-- store: as many bytes as fit are stored, and it looks like success
+pub store-what-fits : replacing (1 ∷ 2 ∷ 3 ∷ []) 2 (7 ∷ 8 ∷ []) .memory ≢ 1 ∷ 2 ∷ 7 ∷ []
+unfolding replacing holds same
+store-what-fits is = true≢false (ap (same (1 ∷ 2 ∷ 3 ∷ [])) is)
+
+-- fill: one value more than was asked for
+pub fill-one-more : replacing (1 ∷ 2 ∷ 3 ∷ []) 1 (replicate 1 9) .memory ≢ 1 ∷ 9 ∷ 9 ∷ []
+unfolding replacing holds replaced same
+fill-one-more is = true≢false (ap (same (1 ∷ 9 ∷ 3 ∷ [])) is)
+
+-- touched: the page at which nothing stands is touched
+pub nothing-touches-a-page : touched 1024 1024 0 ≢ pages 1 1
+unfolding touched
+nothing-touches-a-page is = true≢false (ap (λ (run : PageRun). eqb (run .count) 0) is)
+
+-- ---- tm32
+
+-- answer: the buffer is cleared behind the reply
+pub answer-clears-the-rest : after freshSettings freshDevice handshake (replicate 1040 0x11) .buffer ≢ 0x79 ∷ replicate 1039 0x00
+unfolding hex after lay laid tell callChecks verdict respond greet same freshDevice freshFlash freshRam freshNvr freshOptions replaced word fromOneTo
+answer-clears-the-rest is = true≢false (ap (λ (buffer : List ℕ). eqb (getD buffer 1 0) 0x11) is)
+
+-- start: ready for frames before the handshake
+pub start-talks-at-once : start Uart ≢ sessionOf Talking Uart 0x0A
+start-talks-at-once is = true≢false (ap (λ (session : Session). isWaiting (session .state)) is)
+
+-- start: on UART, whatever the link
+pub start-always-on-uart : start Spi ≢ sessionOf Waiting Uart 0x0A
+start-always-on-uart is = false≢true (ap (λ (session : Session). isUart (session .link)) is)
+
+-- start: at the first rate of the table
+pub start-at-the-first-rate : start Uart ≢ sessionOf Waiting Uart 0x01
+start-at-the-first-rate is = true≢false (ap (λ (session : Session). eqb (session .rate) 0x0A) is)
+
+-- restart: the old rate is kept
+pub restart-keeps-the-rate : restart (sessionOf Talking Uart 0x01) Uart ≢ sessionOf Waiting Uart 0x01
+restart-keeps-the-rate is = true≢false (ap (λ (session : Session). eqb (session .rate) 0x0A) is)
+
+-- restart: the old link is kept
+pub restart-keeps-the-link : restart (sessionOf Talking Uart 0x01) Spi ≢ sessionOf Waiting Uart 0x0A
+restart-keeps-the-link is = false≢true (ap (λ (session : Session). isUart (session .link)) is)
+
+-- bits_per_second: the rate of the code before
+pub rate-one-early : bitsPerSecond 0x0A ≢ 76800
+unfolding bitsPerSecond rates fromOneTo
+rate-one-early is = true≢false (ap (eqb 115200) is)
+
+-- bits_per_second: the last rate for each code above it
+pub rate-past-the-table : bitsPerSecond 0x11 ≢ 1382400
+unfolding bitsPerSecond fromOneTo
+rate-past-the-table is = true≢false (ap (eqb 0) is)
+
+-- answer: Go takes an address only where it is a multiple of 4
+pub jump-wants-alignment : inGoRegion 0x08000002 ≢ false
+unfolding within
+jump-wants-alignment is = true≢false is
+
+-- answer: a write that does not read back as it was sent is taken back
+pub readback-rolls-back : respond freshSettings (onBench Talking (oneByte 0x0F) off) (askWrite 1 0x08000400 (0x3C ∷ [])) .device ≢ onBench Talking (oneByte 0x0F) off
+unfolding little message halfwords options respond serve replyTo verdictOn frame covered word crc byteDone bitsDone bitDone shifted polynomial reading wordAt dataOf requestIn readAs requestOf writeIn longAt checks verdict protections writeChecks flashPages somePage someFrom covers touched within inUserRegion part replaced masked kept same inEither optionBytes work written fromOneTo
+readback-rolls-back is = true≢false (ap (λ (device : Device). eqb (getD (device .memory .flash) 1024 0) 0x0C) is)
+
+-- answer: a request is worked on before its checks are asked, so a refused write is written whole, on the write-protected page too
+pub refused-write-is-written :
+    respond freshSettings (fullDevice wrp7) (askWrite 0 0x08001BFF (0x00 ∷ 0x00 ∷ [])) .device .memory .flash
+    ≢ replicate 1024 0x5A ++ 0x0F ∷ replicate 4094 0x5A ++ 0x44 ∷ replicate 2047 0x5A ++ 0x00 ∷ 0x00 ∷ replicate 25598 0x5A ++ 0x3C ∷ []
+unfolding little message halfwords options respond serve verdictOn refuse frame covered word crc byteDone bitsDone bitDone shifted polynomial reading wordAt dataOf requestIn readAs requestOf writeIn longAt checks verdict protections writeChecks flashPages somePage someFrom covers touched within inUserRegion part same inEither optionBytes fromOneTo
+refused-write-is-written is = true≢false (ap (λ (flash : List ℕ). eqb (getD flash 7167 0) 0x5A) is)
+
+-- answer: the wipe spares the pages under write protection
+pub wipe-spares-protected : wipes rdpWrp7 wrp7 7 ≢ false
+unfolding little halfwords options rdpOn wipes
+wipe-spares-protected is = true≢false is
+
+-- ---- worked cases
+
+-- a write that ends in a write-protected page: the byte before that page is written
+pub free-part-written :
+    respond freshSettings (prepared (onBench Waiting (fullFlash 0x0F) off) (handshake ∷ askWriteOptions wrp7 ∷ [])) (askWrite 0 0x08001BFF (0x00 ∷ 0x00 ∷ [])) .device
+    ≢ onBench Talking (replicate 1024 0x5A ++ 0x0F ∷ replicate 4094 0x5A ++ 0x44 ∷ replicate 2047 0x5A ++ 0x00 ∷ replicate 25599 0x5A ++ 0x3C ∷ []) wrp7
+unfolding prepared hex little message halfwords options respond greet serve replyTo verdictOn refuse frame covered word crc byteDone bitsDone bitDone shifted polynomial reading wordAt dataOf requestIn readAs requestOf writeIn exactly longAt checks verdict protections writeChecks flashPages somePage someFrom covers touched within inUserRegion part replaced same rdpOn inEither optionBytes wipes wiped withOptions work fromOneTo
+free-part-written is = true≢false (ap (λ (device : Device). eqb (getD (device .memory .flash) 7167 0) 0x5A) is)
+
+-- a Read that ends in a page under PCROP: it is answered with data, as from blank flash
+pub protected-page-read-as-blank :
+    respond freshSettings (prepared freshDevice (handshake ∷ askWriteOptions pcrop5 ∷ [])) (askRead 0x080013FF 2) .reply ≢ hex 8 0x2D900200FFFFA6AD
+unfolding prepared hex little message halfwords options respond greet serve replyTo verdictOn refuse frame covered word crc byteDone bitsDone bitDone shifted polynomial reading wordAt dataOf requestIn readAs requestOf exactly longAt checks verdict protections readChecks flashPages somePage someFrom covers touched within inReadRegion part replaced same rdpOn inEither optionBytes wipes wiped withOptions work freshDevice freshFlash freshRam freshNvr freshOptions fromOneTo
+protected-page-read-as-blank is = true≢false (ap (same (hex 6 0x2D630000F3CC)) is)
+
+-- options that take read protection away: the page under write protection is not wiped
+pub protected-page-spared :
+    respond freshSettings (prepared (onBench Waiting (fullFlash 0x0F) off) (handshake ∷ askWriteOptions rdpWrp7 ∷ [])) (askWriteOptions wrp7) .device
+    ≢ onBench Talking (replicate 7168 0xFF ++ replicate 1024 0x5A ++ replicate 24576 0xFF) wrp7
+unfolding prepared hex little message halfwords options respond greet serve replyTo verdictOn frame covered word crc byteDone bitsDone bitDone shifted polynomial reading wordAt dataOf requestIn readAs requestOf exactly checks verdict protections part replaced same rdpOn optionBytes erased wipes wiped withOptions work
+protected-page-spared is = true≢false (ap (λ (device : Device). eqb (getD (device .memory .flash) 7168 0) 0xFF) is)

@@ -1,0 +1,106 @@
+-- Document 01, "Who may touch which page": lemmas for demand 2. Options that take read protection from on to off set all of the flash to 0xFF, pages under write protection too; no other options touch it.
+use Prim.Native.Nat.{ℕ, zero, suc, _+_, _*_}
+use mathlib.Core.Bool.{true, false, not, and-eq-true-iff, false≢true}
+use mathlib.Core.List.{List, _++_, append-nil}
+use mathlib.Core.Path.{_≡_, refl, ap, ap₂, _∙_}
+use native.Mathlib.Omega.{arith}
+use borrow.Author.Tests.{eqb-true, not-true}
+use lib.Dec.{ltb}
+use lib.ListN.{drop, drop-of-length-le, length, length-replicate, replicate, replicate-append-replicate}
+use lib.Seq.{drop-append-add, drop-drop, take-at}
+use Rattle.frame.specs.Frame.{reading}
+use Rattle.memory.specs.Stores.{replaced}
+use Rattle.memory.proofs.Laws.{same-equal}
+use Rattle.tm32.specs.Checks.{checks, noneFails, protections}
+use Rattle.tm32.specs.Device.{Device}
+use Rattle.tm32.specs.Map.{blank, flashLength, pageCount, pageSize}
+use Rattle.tm32.specs.Options.{optionBytes, rdpOn}
+use Rattle.tm32.specs.Request.{readAs, requestIn}
+use Rattle.tm32.specs.Respond.{hello, replyTo, serve}
+use Rattle.tm32.specs.Work.{erased, wiped, wipes, withOptions, work}
+use Rattle.tm32.specs.declared.Request.{Request}
+use Rattle.tm32.specs.declared.Request.the-variants.{Pps, Get, Read, Write, MemoryCrc, Erase, Go, WriteOptions, ReadOptions, HeartBeat, Misshapen}
+use Rattle.tm32.specs.declared.Settings.{Settings}
+use Rattle.demands.specs.Demand2.Named.{wipesBy, wiping}
+use Rattle.demands.specs.Demand2.WorkStays.{cannot, not-wiped}
+use Rattle.demands.specs.Messages.FirstFailing.{request-passes}
+use Rattle.demands.specs.Messages.Ways.{NeitherEmptyNorHello}
+
+-- ---- the flash
+
+-- blanks that are put behind blanks make more of them, and what comes behind is as it was
+more-blank : (first count : ℕ) (flash : List ℕ) → replaced (replicate first blank ++ drop first flash) first (replicate count blank) ≡ replicate (first + count) blank ++ drop (first + count) flash
+unfolding replaced
+more-blank first count flash =
+    let blanks = replicate first blank in
+    let front = length-replicate first blank in
+    let whole : first + length (replicate count blank) ≡ length blanks + count = omega (arith, front, length-replicate count blank) in
+    ap₂ _++_
+    (ap (λ (list : List ℕ). list ++ replicate count blank) (take-at blanks (drop first flash) first front) ∙ replicate-append-replicate first count blank)
+    (ap (λ (place : ℕ). drop place (blanks ++ drop first flash)) whole ∙ drop-append-add blanks (drop first flash) count ∙ drop-drop count first flash)
+
+module _ (old new flash : List ℕ) (on : rdpOn old ≡ true) (off : rdpOn new ≡ false) where
+  -- once the wipe has gone over some pages, these are blank, and the others as they were
+  pub wiped-so-far : (pages : ℕ) → wiped old new pages flash ≡ replicate (pages * pageSize) blank ++ drop (pages * pageSize) flash
+  unfolding wiped wipes erased
+  wiped-so-far zero = refl
+  wiped-so-far (suc page) =
+      let further : page * pageSize + 1 * pageSize ≡ suc page * pageSize = omega arith in
+      rw (on, off, wiped-so-far page)
+      (more-blank (page * pageSize) (1 * pageSize) flash ∙ ap (λ (place : ℕ). replicate place blank ++ drop place flash) further)
+
+  -- so in the end all of the flash is blank
+  pub wiped-all : length flash ≡ flashLength → wiped old new pageCount flash ≡ replicate flashLength blank
+  wiped-all long = wiped-so-far pageCount ∙ ap (λ (rest : List ℕ). replicate flashLength blank ++ rest) (drop-of-length-le flash {i = flashLength} (omega arith)) ∙ append-nil _
+
+-- ---- a message
+
+-- only Write options wipes
+wiping-writes : (options payload : List ℕ) (request : Request) → wipesBy options payload request ≡ true → request ≡ WriteOptions
+unfolding wipesBy
+wiping-writes options payload (Pps code) wipe = absurd (false≢true wipe)
+wiping-writes options payload Get wipe = absurd (false≢true wipe)
+wiping-writes options payload (Read address count) wipe = absurd (false≢true wipe)
+wiping-writes options payload (Write flag address count) wipe = absurd (false≢true wipe)
+wiping-writes options payload (MemoryCrc address count wanted) wipe = absurd (false≢true wipe)
+wiping-writes options payload (Erase first count) wipe = absurd (false≢true wipe)
+wiping-writes options payload (Go address) wipe = absurd (false≢true wipe)
+wiping-writes options payload WriteOptions wipe = refl
+wiping-writes options payload ReadOptions wipe = absurd (false≢true wipe)
+wiping-writes options payload HeartBeat wipe = absurd (false≢true wipe)
+wiping-writes options payload Misshapen wipe = absurd (false≢true wipe)
+
+-- what is shorter than a frame asks for nothing
+short-misshapen : (message : List ℕ) → ltb (length message) 6 ≡ true → requestIn message ≡ Misshapen
+unfolding requestIn readAs reading
+short-misshapen message short = rw short
+
+module _ (device : Device) (message : List ℕ) (wipe : wiping device message ≡ true) where
+  -- so a message that wipes is as long as a frame
+  not-short : ltb (length message) 6 ≡ true → ⊥
+  unfolding wiping wipesBy
+  not-short short = false≢true (rw (short-misshapen message short) at wipe)
+
+  -- and neither empty nor the handshake
+  pub wiping-asks : NeitherEmptyNorHello message
+  wiping-asks =
+      record {
+        some = cannot _ (λ none. not-short (rw (eqb-true (length message) 0 none)));
+        other = cannot _ (λ hail. not-short (rw (same-equal message hello hail)));
+      }
+
+-- Write options has no checks, and does the wipe
+pub work-blank : (settings : Settings) (device : Device) (payload : List ℕ) (request : Request) → length (device .memory .flash) ≡ flashLength
+    → wipesBy (optionBytes (device .memory .nvr)) payload request ≡ true
+    → serve settings device payload request .device .memory .flash ≡ replicate flashLength blank
+unfolding work withOptions wipesBy replyTo checks protections noneFails
+work-blank settings device payload request long wipe =
+    let writes = wiping-writes (optionBytes (device .memory .nvr)) payload request wipe in
+    let both = and-eq-true-iff (rdpOn (optionBytes (device .memory .nvr))) (not (rdpOn payload)) .0 (rw writes at wipe) in
+    rw (writes, request-passes settings device payload WriteOptions refl) (wiped-all _ payload _ (both .0) (not-true _ (both .1)) long)
+
+-- and leaves the flash where it does not wipe
+pub work-unwiped : (settings : Settings) (device : Device) (payload : List ℕ) (request : Request) → request ≡ WriteOptions
+    → wipesBy (optionBytes (device .memory .nvr)) payload request ≡ false → work settings device payload request .device .memory .flash ≡ device .memory .flash
+unfolding work withOptions wipesBy
+work-unwiped settings device payload request writes spared = rw writes (not-wiped _ payload pageCount (device .memory .flash) (rw writes at spared))

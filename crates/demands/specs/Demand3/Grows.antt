@@ -1,0 +1,269 @@
+-- Document 01, "Who may touch which page": what the argument of demand 3 asks of the chip. The checks before protection do not look at the option bytes, protection only grows, the work does not look at
+-- the option bytes, and a refusal for protection is known by its number.
+use Prim.Native.Nat.{ℕ}
+use mathlib.Core.Bool.{Bool, true, false, cond, _||_, true≢false}
+use mathlib.Core.List.{List, []}
+use mathlib.Core.Path.{_≡_, refl, sym, ap, subst, _∙_}
+use borrow.Author.Tests.{eqb-false, eqb-true, not-true}
+use lib.Dec.{eqb}
+use lib.ListN.{length}
+use Rattle.frame.specs.Frame.{covered, dataOf, frame}
+use Rattle.memory.specs.Stores.{same}
+use Rattle.shape.specs.MoreRights.{Growing, SameWork}
+use Rattle.shape.specs.Shape.{Step, Verdict, passes, refuses, tells}
+use Rattle.tm32.specs.After.{Told, callChecks, noReply}
+use Rattle.tm32.specs.Checks.{Check, checks, checksOf, noneFails, numbersOf, protections, verdict}
+use Rattle.tm32.specs.Device.{Device, inState}
+use Rattle.tm32.specs.OptionMessages.{isTalking, optionMessage, touchesOptions}
+use Rattle.tm32.specs.Options.{ProtectAll, optionBytes}
+use Rattle.tm32.specs.Request.{requestIn}
+use Rattle.tm32.specs.Respond.{Answered, answered, greet, hello, isGone, isWaiting, refuse, replyTo}
+use Rattle.tm32.specs.Results.{noHandshake, workDone}
+use Rattle.tm32.specs.Run.{Event, restarted, sent}
+use Rattle.tm32.specs.Work.{work}
+use Rattle.tm32.specs.declared.Request.{Request}
+use Rattle.tm32.specs.declared.Session.{Session}
+use Rattle.tm32.specs.declared.Settings.{Settings}
+use Rattle.tm32.specs.declared.State.{State}
+use Rattle.tm32.specs.declared.State.the-variants.{Waiting, Talking, Gone}
+use Rattle.tm32.proofs.Accepted.{of-both, shaped-so}
+use Rattle.tm32.proofs.Verdicts.{checks-others, none-fails, passAll, request-others, second-list-decides}
+use Rattle.demands.specs.Demand1.Refusals.{isOneOf}
+use Rattle.demands.specs.Demand2.ReplyResults.{of-results}
+use Rattle.demands.specs.Demand3.OfShape.{Stricter, against, byMessage, doneWith, protectedFrom, refusal, replies, testedFirst, tm32}
+use Rattle.demands.specs.Demand3.OptionsUnseen.{still-session, work-alike}
+use Rattle.demands.specs.Demand3.ProtectionGrows.{checks-other, isOther, isProtection, protections-others, protections-own, still-passes}
+use Rattle.demands.specs.Demand3.TwoDevices.{AlikeButOptions, isProtectionRefusal, optionEvent}
+use Rattle.demands.specs.Messages.FirstFailing.{Tells, all-pass, allPass, call-numbers, number-so, oneFails, told}
+use Rattle.demands.specs.Messages.Ways.{Known, lent}
+
+-- ---- the checks do not look at the option bytes
+
+-- nor do those of a call: they look at lengths and at the session
+pub calls-alike : (one other : Device) (room : ℕ) → AlikeButOptions one other → callChecks one room ≡ callChecks other room
+unfolding callChecks
+calls-alike one other room alike = rw (alike .session, alike .flash, alike .ram, alike .nvrLength)
+
+checks-alike : (strict loose : Device) (event : Event) → Stricter strict loose → testedFirst strict event ≡ testedFirst loose event
+unfolding testedFirst
+checks-alike strict loose (sent message room) stricter = rw (calls-alike strict loose room (stricter .alike), stricter .alike .session)
+checks-alike strict loose (restarted link) stricter = refl
+
+-- ---- protection only grows
+
+-- a number lets a request pass only where it says that work is done
+pass-done : (number : ℕ) → against number ≡ passes → number ≡ workDone
+unfolding against
+pass-done number is = by-test (eqb number workDone) refl is
+  where
+    by-test : (test : Bool) → eqb number workDone ≡ test → cond test passes (refuses (refusal number)) ≡ passes → number ≡ workDone
+    by-test true same is = eqb-true number workDone same
+    by-test false other is =
+        let never : true ≡ false = cc in
+        absurd (true≢false never)
+
+-- and then it does
+done-pass : (number : ℕ) → number ≡ workDone → against number ≡ passes
+unfolding against
+done-pass number is = rw is
+
+-- protection, of a request
+request-grows : (strict loose : List ℕ) (request : Request) → ProtectAll strict loose → against (verdict workDone (protections strict request)) ≡ passes
+    → against (verdict workDone (protections loose request)) ≡ passes
+request-grows strict loose request protects is =
+    let pass = none-fails workDone (protections strict request) (protections-others strict request) (pass-done _ is) in
+    done-pass _ (all-pass workDone (protections loose request) (still-passes strict loose protects request pass))
+
+-- and of an event
+protection-grows : (strict loose : Device) (event : Event) → Stricter strict loose → protectedFrom strict event ≡ passes → protectedFrom loose event ≡ passes
+unfolding protectedFrom byMessage
+protection-grows strict loose (sent message room) stricter free =
+    rw (sym (stricter .alike .session))
+    (by-tests (eqb (length message) 0 || isGone (strict .session .state)) (same message hello) (isWaiting (strict .session .state))
+    (request-grows _ _ (requestIn message) (stricter .protects)) free)
+  where
+    by-tests : (silent greeted waiting : Bool) {strictly loosely : Verdict Told} → (strictly ≡ passes → loosely ≡ passes)
+        → cond silent passes (cond greeted passes (cond waiting passes strictly)) ≡ passes → cond silent passes (cond greeted passes (cond waiting passes loosely)) ≡ passes
+    by-tests true greeted waiting grows free = refl
+    by-tests false true waiting grows free = refl
+    by-tests false false true grows free = refl
+    by-tests false false false grows free = grows free
+protection-grows strict loose (restarted link) stricter free = refl
+
+-- ---- a refusal is known by its number
+
+-- the result of a refusal is its number
+refusal-number : (number : ℕ) → isProtectionRefusal (refusal number) ≡ isProtection number
+unfolding isProtectionRefusal frame covered
+refusal-number number = refl
+
+-- before the handshake it is another
+unshaken-other : isProtectionRefusal (refusal noHandshake) ≡ false
+unfolding isOneOf
+unshaken-other = refusal-number noHandshake
+
+-- what is known of a refusal that is told
+told-so : (P : Told → Type 0) (told other : Told) → P told → refuses told ≡ refuses other → P other
+told-so P told other so is =
+    let same : told ≡ other = cc in
+    rw same at so
+
+-- what passes tells nothing
+nothing-told : (told : Told) → passes ≡ refuses told → ⊥
+nothing-told told is =
+    let never : true ≡ false = cc in
+    true≢false never
+
+-- a verdict that is none of a pass has the number of a check
+failed-so : (test : ℕ → Bool) (list : List Check) → passAll test (numbersOf list) ≡ true → eqb (verdict workDone list) workDone ≡ false → test (verdict workDone list) ≡ true
+failed-so test list all failed = by-verdict (told workDone list (verdict workDone list) refl)
+  where
+    by-verdict : Tells workDone list (verdict workDone list) → test (verdict workDone list) ≡ true
+    by-verdict (allPass pass is) = absurd (eqb-false _ _ failed is)
+    by-verdict (oneFails found) = number-so test list (verdict workDone list) all found
+
+-- the number of a refusal passes a test that all the numbers of its checks pass
+against-so : (P : Told → Type 0) (test : ℕ → Bool) (list : List Check) → passAll test (numbersOf list) ≡ true → ((number : ℕ) → test number ≡ true → P (refusal number))
+    → (told : Told) → against (verdict workDone list) ≡ refuses told → P told
+unfolding against
+against-so P test list all so told is = by-test (eqb (verdict workDone list) workDone) refl is
+  where
+    by-test : (done : Bool) → eqb (verdict workDone list) workDone ≡ done → cond done passes (refuses (refusal (verdict workDone list))) ≡ refuses told → P told
+    by-test true same is = absurd (nothing-told told is)
+    by-test false other is = told-so P (refusal (verdict workDone list)) told (so _ (failed-so test list all other)) is
+
+-- a check before protection never tells a refusal for protection
+check-kind : (device : Device) (event : Event) (told : Told) → testedFirst device event ≡ refuses told → isProtectionRefusal told ≡ false
+unfolding testedFirst byMessage isProtectionRefusal
+check-kind device (sent message room) =
+    let kind : Verdict Told → Type 0 = λ verdict. (told : Told) → verdict ≡ refuses told → isProtectionRefusal told ≡ false in
+    let other : Told → Type 0 = λ told. isProtectionRefusal told ≡ false in
+    let link = device .session .link in
+    let number = verdict 0 (callChecks device room) in
+    let free : kind passes = λ told is. absurd (nothing-told told is) in
+    of-both kind (eqb number 0)
+    (of-both kind (eqb (length message) 0 || isGone (device .session .state)) free
+    (of-both kind (same message hello) free
+    (of-both kind (isWaiting (device .session .state)) (λ told is. told-so other (refusal noHandshake) told unshaken-other is)
+    (against-so other isOther (checks link (requestIn message)) (checks-other link (requestIn message))
+    (λ number so. refusal-number number ∙ not-true _ so)))))
+    (λ told is. told-so other (noReply number) told refl is)
+check-kind device (restarted link) = λ told is. absurd (nothing-told told is)
+
+-- and protection tells nothing else
+protection-kind : (device : Device) (event : Event) (told : Told) → protectedFrom device event ≡ refuses told → isProtectionRefusal told ≡ true
+unfolding protectedFrom byMessage
+protection-kind device (sent message room) =
+    let kind : Verdict Told → Type 0 = λ verdict. (told : Told) → verdict ≡ refuses told → isProtectionRefusal told ≡ true in
+    let options = optionBytes (device .memory .nvr) in
+    let free : kind passes = λ told is. absurd (nothing-told told is) in
+    of-both kind (eqb (length message) 0 || isGone (device .session .state)) free
+    (of-both kind (same message hello) free
+    (of-both kind (isWaiting (device .session .state)) free
+    (against-so (λ told. isProtectionRefusal told ≡ true) isProtection (protections options (requestIn message)) (protections-own options (requestIn message))
+    (λ number so. refusal-number number ∙ so))))
+protection-kind device (restarted link) = λ told is. absurd (nothing-told told is)
+
+-- nor does work tell one
+work-kind : (settings : Settings) (device : Device) (event : Event) → tells isProtectionRefusal (doneWith settings device event .told) ≡ false
+unfolding doneWith byMessage tells isProtectionRefusal greet refuse replyTo frame covered isOneOf
+work-kind settings device (sent message room) =
+    let kind : Answered → Type 0 = λ answer. tells isProtectionRefusal (replies answer .told) ≡ false in
+    of-both kind (eqb (length message) 0 || isGone (device .session .state)) refl
+    (of-both kind (same message hello) refl
+    (of-both kind (isWaiting (device .session .state)) refl
+    (of-results (λ (number : ℕ). (isProtection number || false) ≡ false) refl refl refl refl settings device (dataOf message) (requestIn message))))
+work-kind settings device (restarted link) = refl
+
+-- ---- the work does not look at the option bytes
+
+-- where neither of two tests passes, the second does not
+second-fails : (one other : Bool) → (one || other) ≡ false → other ≡ false
+second-fails true other fails = absurd (true≢false fails)
+second-fails false other fails = fails
+
+-- a session that has neither Gone nor Waits is Talking
+talking : (state : State) → isGone state ≡ false → isWaiting state ≡ false → isTalking state ≡ true
+unfolding isTalking
+talking Waiting present shaken = absurd (true≢false shaken)
+talking Talking present shaken = refl
+talking (Gone address) present shaken = absurd (true≢false present)
+
+module _ (settings : Settings) (strict loose : Device) (message : List ℕ) (room : ℕ) (stricter : Stricter strict loose) where
+  -- what is known of a request that passes all that is tested
+  known-so : noneFails (callChecks strict room) ≡ true → against (verdict workDone (checks (strict .session .link) (requestIn message))) ≡ passes
+      → against (verdict workDone (protections (optionBytes (strict .memory .nvr)) (requestIn message))) ≡ passes → Known strict room (dataOf message) (requestIn message)
+  known-so hears checked free =
+      let link = strict .session .link in
+      let options = optionBytes (strict .memory .nvr) in
+      let request = requestIn message in
+      let first = pass-done (verdict workDone (checks link request)) checked in
+      let second = pass-done (verdict workDone (protections options request)) free in
+      record {
+        sized = lent strict room hears;
+        shape = shaped-so message;
+        pass = none-fails workDone (checksOf link options request) (request-others link options request)
+            (second-list-decides workDone (protections options request) (checks link request) (checks-others link request) first ∙ second);
+      }
+
+  -- by the tests that are made of a message
+  by-tests : (hears silent greeted waiting : Bool)
+      → cond hears (cond silent passes (cond greeted passes (cond waiting (refuses (refusal noHandshake)) (against (verdict workDone (checks (strict .session .link) (requestIn message)))))))
+      (refuses (noReply (verdict 0 (callChecks strict room)))) ≡ passes
+      → cond silent passes (cond greeted passes (cond waiting passes (against (verdict workDone (protections (optionBytes (strict .memory .nvr)) (requestIn message)))))) ≡ passes
+      → (hears ≡ true → silent ≡ false → waiting ≡ false → against (verdict workDone (checks (strict .session .link) (requestIn message))) ≡ passes
+      → against (verdict workDone (protections (optionBytes (strict .memory .nvr)) (requestIn message))) ≡ passes
+      → SameWork Stricter (replies (replyTo (work settings strict (dataOf message) (requestIn message)))) (replies (replyTo (work settings loose (dataOf message) (requestIn message)))))
+      → SameWork Stricter
+      (replies
+      (cond silent (answered strict [])
+      (cond greeted (greet strict)
+      (cond waiting (refuse strict noHandshake)
+      (replyTo (work settings strict (dataOf message) (requestIn message)))))))
+      (replies
+      (cond silent (answered loose [])
+      (cond greeted (greet loose)
+      (cond waiting (refuse loose noHandshake)
+      (replyTo (work settings loose (dataOf message) (requestIn message)))))))
+  unfolding greet refuse
+  by-tests false silent greeted waiting checked free asked = absurd (nothing-told _ (sym checked))
+  by-tests true true greeted waiting checked free asked = record { told = refl; stricter = stricter }
+  by-tests true false true waiting checked free asked =
+      record { told = refl; stricter = still-session strict loose stricter _ _ (ap (λ (session : Session). inState session Talking) (stricter .alike .session)) }
+  by-tests true false false true checked free asked = record { told = refl; stricter = stricter }
+  by-tests true false false false checked free asked = asked refl refl refl checked free
+
+  -- a message
+  message-alike : optionMessage strict message room ≡ false → testedFirst strict (sent message room) ≡ passes → protectedFrom strict (sent message room) ≡ passes
+      → SameWork Stricter (doneWith settings strict (sent message room)) (doneWith settings loose (sent message room))
+  unfolding testedFirst protectedFrom doneWith byMessage optionMessage
+  message-alike spared checked free =
+      let on : State → Step Device Told = λ state. replies (byMessage state message (answered loose []) (greet loose) (refuse loose noHandshake) (replyTo (work settings loose (dataOf message) (requestIn message)))) in
+      subst (λ (state : State). SameWork Stricter (doneWith settings strict (sent message room)) (on state)) (ap (λ (session : Session). session .state) (stricter .alike .session))
+      (by-tests (eqb (verdict 0 (callChecks strict room)) 0) (eqb (length message) 0 || isGone (strict .session .state)) (same message hello) (isWaiting (strict .session .state)) checked free
+      (λ hears heard shaken passed unprotected.
+      let pass = none-fails 0 (callChecks strict room) (call-numbers strict room) (eqb-true _ _ hears) in
+      let talks = talking (strict .session .state) (second-fails (eqb (length message) 0) (isGone (strict .session .state)) heard) shaken in
+      let untouched : touchesOptions (requestIn message) ≡ false = rw (hears, talks) at spared in
+      work-alike settings strict loose room (dataOf message) stricter (requestIn message) (known-so pass passed unprotected) untouched))
+
+-- and every event that neither reads nor writes the option bytes
+event-alike : (settings : Settings) (strict loose : Device) (event : Event) → Stricter strict loose → optionEvent strict event ≡ false → testedFirst strict event ≡ passes
+    → protectedFrom strict event ≡ passes → SameWork Stricter (doneWith settings strict event) (doneWith settings loose event)
+unfolding optionEvent doneWith
+event-alike settings strict loose (sent message room) stricter spared checked free = message-alike settings strict loose message room stricter spared checked free
+event-alike settings strict loose (restarted link) stricter spared checked free = record { told = refl; stricter = still-session strict loose stricter _ _ refl }
+
+-- ---- all of it together
+
+-- the chip brings all that the argument asks
+pub grows : (settings : Settings) → Growing (tm32 settings) optionEvent Stricter
+grows settings =
+    record {
+      checks-alike = checks-alike;
+      protection-grows = protection-grows;
+      work-alike = event-alike settings;
+      check-kind = check-kind;
+      protection-kind = protection-kind;
+      work-kind = work-kind settings;
+    }

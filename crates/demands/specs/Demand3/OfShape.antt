@@ -1,0 +1,174 @@
+-- Document 01, "A message and its reply": the TM32G07x is a device of our shape. What it does with an event falls into checks, protection and work, and is put together from them as any such device's is.
+use Prim.Native.Nat.{ℕ}
+use mathlib.Core.Bool.{Bool, true, false, cond, _||_}
+use mathlib.Core.List.{List, [], _∷_, _++_}
+use mathlib.Core.Path.{_≡_, refl, ap, fun-ext}
+use borrow.Author.Tests.{eqb-false, eqb-true}
+use lib.Dec.{eqb}
+use lib.ListN.{length}
+use Rattle.frame.specs.Frame.{dataOf, frame}
+use Rattle.memory.specs.Stores.{same}
+use Rattle.shape.specs.Shape.{Shape, Step, Verdict, judged, passes, refuses, runBy, stepIn, stepOf}
+use Rattle.tm32.specs.After.{Telling, Told, callChecks, noReply, replied, tell, telling}
+use Rattle.tm32.specs.Checks.{checks, protections, verdict}
+use Rattle.tm32.specs.Device.{Device, crcStart, restart, withSession}
+use Rattle.tm32.specs.Options.{ProtectAll, optionBytes}
+use Rattle.tm32.specs.Request.{requestIn}
+use Rattle.tm32.specs.Respond.{Answered, answered, greet, hello, isGone, isWaiting, refuse, replyTo, respond, serve, verdictOn}
+use Rattle.tm32.specs.Results.{noHandshake, workDone}
+use Rattle.tm32.specs.Run.{Event, restarted, run, sent}
+use Rattle.tm32.specs.Work.{work}
+use Rattle.tm32.specs.declared.Request.{Request}
+use Rattle.tm32.specs.declared.Settings.{Settings}
+use Rattle.tm32.specs.declared.State.{State}
+use Rattle.tm32.proofs.Verdicts.{checks-others, first-list-decides, second-list-decides}
+use Rattle.demands.specs.Demand3.TwoDevices.{AlikeButOptions, happens, isProtectionRefusal}
+
+-- One of four, by what a message is to a session in a state: met with silence, the handshake, another before it, or a request.
+unfoldable pub byMessage : {A : Type 0} → State → List ℕ → A → A → A → A → A
+byMessage state message silent greeted unshaken asked =
+    cond (eqb (length message) 0 || isGone state) silent
+    (cond (same message hello) greeted
+    (cond (isWaiting state) unshaken
+    asked))
+
+-- What the caller is told of a refusal, and what a number says that may be one.
+abbrev pub refusal : ℕ → Told
+refusal number = replied (frame crcStart number [])
+
+unfoldable pub against : ℕ → Verdict Told
+against number = cond (eqb number workDone) passes (refuses (refusal number))
+
+-- All that is tested before protection: the call, the handshake, and the checks of a request. A restart is never refused.
+unfoldable pub testedFirst : Device → Event → Verdict Told
+testedFirst device (sent message room) =
+    let number : ℕ = verdict 0 (callChecks device room) in
+    cond (eqb number 0)
+    (byMessage (device .session .state) message passes passes (refuses (refusal noHandshake)) (against (verdict workDone (checks (device .session .link) (requestIn message)))))
+    (refuses (noReply number))
+testedFirst device (restarted link) = passes
+
+-- Protection, of a request.
+unfoldable pub protectedFrom : Device → Event → Verdict Told
+protectedFrom device (sent message room) =
+    byMessage (device .session .state) message passes passes passes (against (verdict workDone (protections (optionBytes (device .memory .nvr)) (requestIn message))))
+protectedFrom device (restarted link) = passes
+
+-- What comes of an answer, and of a call.
+abbrev pub replies : Answered → Step Device Told
+replies answer = stepOf (answer .device) (replied (answer .reply) ∷ [])
+
+abbrev pub calls : Telling → Step Device Told
+calls outcome = stepOf (outcome .device) (outcome .told ∷ [])
+
+-- What is done where nothing is against it.
+unfoldable pub doneWith : Settings → Device → Event → Step Device Told
+doneWith settings device (sent message room) =
+    replies (byMessage (device .session .state) message (answered device []) (greet device) (refuse device noHandshake) (replyTo (work settings device (dataOf message) (requestIn message))))
+doneWith settings device (restarted link) = stepOf (withSession device (restart (device .session) link)) []
+
+-- The chip, with its settings, as a device of our shape.
+abbrev pub tm32 : Settings → Shape
+tm32 settings =
+    record {
+      Device = Device;
+      Event = Event;
+      Told = Told;
+      checks = testedFirst;
+      protection = protectedFrom;
+      work = doneWith settings;
+      isProtection = isProtectionRefusal;
+    }
+
+-- What the argument asks of two devices: that they are alike but for their option bytes, and that the first protects all that the second does.
+pub record Stricter (strict loose : Device) : Type 0 where
+  pub alike : AlikeButOptions strict loose
+  pub protects : ProtectAll (optionBytes (strict .memory .nvr)) (optionBytes (loose .memory .nvr))
+
+-- ---- a request
+
+module _ (settings : Settings) (device : Device) (payload : List ℕ) (request : Request) where
+  -- by whether a check fails
+  by-checks : (passed : Bool) (first second both : ℕ) → eqb first workDone ≡ passed → (first ≡ workDone → both ≡ second) → ((first ≡ workDone → ⊥) → both ≡ first)
+      → replies (cond (eqb both workDone) (replyTo (work settings device payload request)) (refuse device both))
+      ≡ judged device (cond passed passes (refuses (refusal first))) (judged device (against second) (replies (replyTo (work settings device payload request))))
+  unfolding judged against refuse
+  by-checks true first second both is behind ahead = rw (behind (eqb-true _ _ is)) (by-second (eqb second workDone))
+    where
+      by-second : (passed : Bool) → replies (cond passed (replyTo (work settings device payload request)) (answered device (frame crcStart second [])))
+          ≡ judged device (cond passed passes (refuses (refusal second))) (replies (replyTo (work settings device payload request)))
+      by-second true = refl
+      by-second false = refl
+  by-checks false first second both is behind ahead = rw (ahead (eqb-false _ _ is), is)
+
+  -- a request is judged by its checks, then by protection
+  pub request-judged : replies (serve settings device payload request)
+      ≡ judged device (against (verdict workDone (checks (device .session .link) request)))
+      (judged device (against (verdict workDone (protections (optionBytes (device .memory .nvr)) request)))
+      (replies (replyTo (work settings device payload request))))
+  unfolding serve verdictOn against
+  request-judged =
+      let first = checks (device .session .link) request in
+      let second = protections (optionBytes (device .memory .nvr)) request in
+      by-checks (eqb (verdict workDone first) workDone) (verdict workDone first) (verdict workDone second) (verdict workDone (first ++ second)) refl
+      (second-list-decides workDone second first (checks-others (device .session .link) request)) (first-list-decides workDone second first)
+
+-- ---- an event
+
+module _ (settings : Settings) (device : Device) (message : List ℕ) (room : ℕ) where
+  -- by the tests that are made of a message
+  by-tests : (number : ℕ) (heard silent greeted waiting : Bool)
+      → calls
+      (let response : Answered =
+      cond silent (answered device [])
+      (cond greeted (greet device)
+      (cond waiting (refuse device noHandshake)
+      (serve settings device (dataOf message) (requestIn message))))
+      in
+      cond heard (telling (response .device) (replied (response .reply))) (telling device (noReply number)))
+      ≡ judged device
+      (cond heard
+      (cond silent passes (cond greeted passes (cond waiting (refuses (refusal noHandshake)) (against (verdict workDone (checks (device .session .link) (requestIn message)))))))
+      (refuses (noReply number)))
+      (judged device
+      (cond silent passes (cond greeted passes (cond waiting passes (against (verdict workDone (protections (optionBytes (device .memory .nvr)) (requestIn message)))))))
+      (replies
+      (cond silent (answered device [])
+      (cond greeted (greet device)
+      (cond waiting (refuse device noHandshake)
+      (replyTo (work settings device (dataOf message) (requestIn message))))))))
+  unfolding judged refuse
+  by-tests number false silent greeted waiting = refl
+  by-tests number true true greeted waiting = refl
+  by-tests number true false true waiting = refl
+  by-tests number true false false true = refl
+  by-tests number true false false false = request-judged settings device (dataOf message) (requestIn message)
+
+  -- a message
+  message-judged : calls (tell settings device message room) ≡ stepIn (tm32 settings) device (sent message room)
+  unfolding tell respond stepIn testedFirst protectedFrom doneWith byMessage
+  message-judged =
+      let number = verdict 0 (callChecks device room) in
+      by-tests number (eqb number 0) (eqb (length message) 0 || isGone (device .session .state)) (same message hello) (isWaiting (device .session .state))
+
+-- what comes of an event is what the shape makes of checks, protection and work
+pub happens-so : (settings : Settings) (device : Device) (event : Event) → happens settings device event ≡ stepIn (tm32 settings) device event
+unfolding happens run stepIn judged testedFirst protectedFrom doneWith
+happens-so settings device (sent message room) = message-judged settings device message room
+happens-so settings device (restarted link) = refl
+
+-- so the two are one function
+pub step-same : (settings : Settings) → happens settings ≡ stepIn (tm32 settings)
+step-same settings = fun-ext (λ device. fun-ext (λ event. happens-so settings device event))
+
+-- ---- a list of events
+
+-- a run is what any device's is
+pub run-so : (settings : Settings) (device : Device) (events : List Event)
+    → stepOf (run settings device events .device) (run settings device events .told) ≡ runBy (happens settings) device events
+unfolding run runBy happens
+run-so settings device [] = refl
+run-so settings device (sent message room ∷ events) =
+    let first : Telling = tell settings device message room in
+    ap (λ (rest : Step Device Told). stepOf (rest .device) (first .told ∷ rest .told)) (run-so settings (first .device) events)
+run-so settings device (restarted link ∷ events) = run-so settings (withSession device (restart (device .session) link)) events

@@ -1,0 +1,215 @@
+-- Document 01, "A message and its reply": the ways of a message, and what is known where its work is done: the lengths of the memory, the shape of the data, and where the range lies.
+use Prim.Native.Nat.{ℕ, _+_, _-_, _≤_}
+use mathlib.Core.Bool.{Bool, true, false, cond, _||_, false≢true, true≢false}
+use mathlib.Core.List.{List, []}
+use mathlib.Core.Path.{_≡_, refl, ap}
+use native.Mathlib.Omega.{arith}
+use borrow.Author.Tests.{eqb-false, eqb-true, ltb-false, not-false}
+use lib.Dec.{eqb}
+use lib.ListN.{getD, length}
+use Rattle.frame.specs.Frame.{covered, dataOf, frame, headByte}
+use Rattle.memory.specs.Ranges.{within}
+use Rattle.memory.specs.Stores.{kept, replaced, same}
+use Rattle.memory.proofs.Laws.{region-holds}
+use Rattle.tm32.specs.After.{Telling, callChecks, replied, tell}
+use Rattle.tm32.specs.Checks.{noneFails}
+use Rattle.tm32.specs.Device.{Device, Memory, crcStart, withFlash, withNvr, withRam}
+use Rattle.tm32.specs.Map.{flashStart, inFlash, inRam, inUserNvr, inUserRegion, nvrLength, nvrStart, ramStart, userNvrLength, userNvrStart}
+use Rattle.tm32.specs.OptionMessages.{isTalking}
+use Rattle.tm32.specs.Promises.{Lent}
+use Rattle.tm32.specs.Request.{requestIn}
+use Rattle.tm32.specs.Respond.{Answered, answered, greet, hello, isGone, isWaiting, refuse, replyTo, respond, serve}
+use Rattle.tm32.specs.Results.{noHandshake}
+use Rattle.tm32.specs.Work.{work, written}
+use Rattle.tm32.specs.declared.Request.{Request}
+use Rattle.tm32.specs.declared.Settings.{Settings}
+use Rattle.tm32.specs.declared.State.{State}
+use Rattle.tm32.specs.declared.State.the-variants.{Waiting, Talking, Gone}
+use Rattle.tm32.proofs.Accepted.{Shaped, next, shaped-so}
+use Rattle.demands.specs.Messages.FirstFailing.{Called, FirstFailing, Served, accepted, called, heard, refused, requestChecks, served, unheard}
+
+-- That a message is neither empty nor the handshake.
+pub record NeitherEmptyNorHello (message : List ℕ) : Type 0 where
+  pub some : eqb (length message) 0 ≡ false
+  pub other : same message hello ≡ false
+
+-- The ways of a message that is heard, each with the tests that lead there: an empty reply, the handshake, a refusal before it or by a check, and work.
+pub data Heard (settings : Settings) (device : Device) (message : List ℕ) : Answered → Type 0 where
+  silent : (eqb (length message) 0 || isGone (device .session .state)) ≡ true → Heard settings device message (answered device [])
+  greeted : isGone (device .session .state) ≡ false → same message hello ≡ true → Heard settings device message (greet device)
+  unshaken : NeitherEmptyNorHello message → isWaiting (device .session .state) ≡ true → Heard settings device message (refuse device noHandshake)
+  turnedAway : NeitherEmptyNorHello message → isTalking (device .session .state) ≡ true
+      → (number : ℕ) → FirstFailing (requestChecks device (requestIn message)) number → Heard settings device message (refuse device number)
+  workedOn : NeitherEmptyNorHello message → isTalking (device .session .state) ≡ true
+      → noneFails (requestChecks device (requestIn message)) ≡ true → Heard settings device message (replyTo (work settings device (dataOf message) (requestIn message)))
+
+-- Where a write of some bytes goes: into flash, where bits can only be cleared, into RAM, or into the user's NVR.
+pub data Stored (memory : Memory) (address : ℕ) (bytes : List ℕ) : Memory → Type 0 where
+  intoFlash : inFlash address (length bytes) ≡ true
+      → Stored memory address bytes (withFlash memory (replaced (memory .flash) (address - flashStart) (kept (memory .flash) (address - flashStart) bytes)))
+  intoRam : inRam address (length bytes) ≡ true → Stored memory address bytes (withRam memory (replaced (memory .ram) (address - ramStart) bytes))
+  intoNvr : inUserNvr address (length bytes) ≡ true → Stored memory address bytes (withNvr memory (replaced (memory .nvr) (address - nvrStart) bytes))
+
+-- All that is known of a request whose work is done.
+pub record Known (device : Device) (room : ℕ) (payload : List ℕ) (request : Request) : Type 0 where
+  pub sized : Lent (device .memory) room
+  pub shape : Shaped payload request
+  pub pass : noneFails (requestChecks device request) ≡ true
+
+-- ---- the ways of a message
+
+-- a device that Waits has not Gone
+waiting-here : (state : State) → isWaiting state ≡ true → isGone state ≡ false
+waiting-here Waiting waits = refl
+waiting-here Talking waits = refl
+waiting-here (Gone address) waits = absurd (false≢true waits)
+
+-- and one that is Talking neither has Gone nor Waits
+talking-here : (state : State) → isTalking state ≡ true → (isGone state ≡ false) × (isWaiting state ≡ false)
+unfolding isTalking
+talking-here Waiting talks = absurd (false≢true talks)
+talking-here Talking talks = (refl, refl)
+talking-here (Gone address) talks = absurd (false≢true talks)
+
+module _ (settings : Settings) (device : Device) (message : List ℕ) where
+  -- a request is refused or worked on
+  on-request : NeitherEmptyNorHello message → isTalking (device .session .state) ≡ true → (answer : Answered) → Served settings device (dataOf message) (requestIn message) answer
+      → Heard settings device message answer
+  on-request asks talks answer (refused number found) = turnedAway asks talks number found
+  on-request asks talks answer (accepted pass) = workedOn asks talks pass
+
+  -- by the tests that are made of a message
+  by-tests : (empty hails : Bool) (state : State) → eqb (length message) 0 ≡ empty → same message hello ≡ hails → device .session .state ≡ state
+      → Heard settings device message
+      (cond (empty || isGone state) (answered device [])
+      (cond hails (greet device)
+      (cond (isWaiting state) (refuse device noHandshake)
+      (serve settings device (dataOf message) (requestIn message)))))
+  unfolding isTalking
+  by-tests true hails state none other is = silent (rw none)
+  by-tests false hails (Gone address) some other is = silent (rw (some, is))
+  by-tests false true Waiting some hail is = greeted (rw is) hail
+  by-tests false true Talking some hail is = greeted (rw is) hail
+  by-tests false false Waiting some other is = unshaken (record { some = some; other = other }) (rw is)
+  by-tests false false Talking some other is =
+      on-request (record { some = some; other = other }) (rw is) _ (served settings device (dataOf message) (requestIn message))
+
+  -- every message goes one of them
+  pub heard-so : Heard settings device message (respond settings device message)
+  unfolding respond
+  heard-so = by-tests (eqb (length message) 0) (same message hello) (device .session .state) refl refl refl
+
+  -- what is neither empty nor the handshake is refused while Waiting
+  pub before-hello : NeitherEmptyNorHello message → isWaiting (device .session .state) ≡ true → respond settings device message ≡ refuse device noHandshake
+  unfolding respond
+  before-hello asks waits = rw (asks .some, asks .other, waiting-here (device .session .state) waits, waits)
+
+  -- and served as a request while Talking
+  pub asked : NeitherEmptyNorHello message → isTalking (device .session .state) ≡ true → respond settings device message ≡ serve settings device (dataOf message) (requestIn message)
+  unfolding respond
+  asked asks talks =
+      let here = talking-here (device .session .state) talks in
+      rw (asks .some, asks .other, here .0, here .1)
+
+-- ---- what the checks say where they pass
+
+-- the lengths of a call that is heard
+pub lent : (device : Device) (room : ℕ) → noneFails (callChecks device room) ≡ true → Lent (device .memory) room
+unfolding callChecks
+lent device room pass =
+    let flash = next _ _ pass in
+    let ram = next _ _ (flash .1) in
+    let nvr = next _ _ (ram .1) in
+    let space = next _ _ (nvr .1) in
+    record {
+      flash = eqb-true _ _ (not-false _ (flash .0));
+      ram = eqb-true _ _ (not-false _ (ram .0));
+      nvr = eqb-true _ _ (not-false _ (nvr .0));
+      space = ltb-false _ _ (space .0);
+    }
+
+-- ---- where bytes are stored
+
+-- a range in a region has its place in the memory of the region
+pub fits : (memory : List ℕ) (start size address count : ℕ) → length memory ≡ size → within start size address count ≡ true → address - start + count ≤ length memory
+fits memory start size address count sized inside =
+    let ends = region-holds start size address count inside in
+    omega arith
+
+-- and so has a range in the user's NVR, in the whole NVR
+pub nvr-fits : (memory : List ℕ) (address count : ℕ) → length memory ≡ nvrLength → inUserNvr address count ≡ true → address - nvrStart + count ≤ length memory
+nvr-fits memory address count sized inside =
+    let ends = region-holds userNvrStart userNvrLength address count inside in
+    omega arith
+
+module _ (memory : Memory) (address : ℕ) (bytes : List ℕ) where
+  -- by the regions that hold the range
+  by-region : (flash ram : Bool) → inFlash address (length bytes) ≡ flash → inRam address (length bytes) ≡ ram → (flash || ram || inUserNvr address (length bytes)) ≡ true
+      → Stored memory address bytes
+      (cond flash (withFlash memory (replaced (memory .flash) (address - flashStart) (kept (memory .flash) (address - flashStart) bytes)))
+      (cond ram (withRam memory (replaced (memory .ram) (address - ramStart) bytes)) (withNvr memory (replaced (memory .nvr) (address - nvrStart) bytes))))
+  by-region true ram flashed rammed user = intoFlash flashed
+  by-region false true flashed rammed user = intoRam rammed
+  by-region false false flashed rammed user = intoNvr user
+
+  -- a write to the user's regions goes into one of them
+  pub stored-so : inUserRegion address (length bytes) ≡ true → Stored memory address bytes (written memory address bytes)
+  unfolding inUserRegion written
+  stored-so user = by-region (inFlash address (length bytes)) (inRam address (length bytes)) refl refl user
+
+-- ---- the memory after a message
+
+module _ (settings : Settings) (device : Device) (message : List ℕ) (room : ℕ) (P : Memory → Type 0) (before : P (device .memory)) where
+  -- by the way of the message
+  after-way : (answer : Answered) → Heard settings device message answer
+      → (noneFails (requestChecks device (requestIn message)) ≡ true → P (work settings device (dataOf message) (requestIn message) .device .memory))
+      → P (answer .device .memory)
+  unfolding greet refuse replyTo
+  after-way answer (silent unheeded) done = before
+  after-way answer (greeted here hail) done = before
+  after-way answer (unshaken asks waits) done = before
+  after-way answer (turnedAway asks talks number found) done = before
+  after-way answer (workedOn asks talks pass) done = done pass
+
+  -- by the way of the call
+  after-call : (outcome : Telling) → Called settings device message room outcome
+      → (Known device room (dataOf message) (requestIn message) → P (work settings device (dataOf message) (requestIn message) .device .memory))
+      → P (outcome .device .memory)
+  after-call outcome (heard pass) done =
+      let sized = lent device room pass in
+      after-way (respond settings device message) (heard-so settings device message) (λ accepts. done (record { sized = sized; shape = shaped-so message; pass = accepts }))
+  after-call outcome (unheard number found) done = before
+
+  -- what held before a message holds after it, where the work that is done keeps it
+  pub memory-after : (Known device room (dataOf message) (requestIn message) → P (work settings device (dataOf message) (requestIn message) .device .memory))
+      → P (tell settings device message room .device .memory)
+  memory-after done = after-call (tell settings device message room) (called settings device message room) done
+
+-- ---- the reply that is told
+
+module _ (settings : Settings) (device : Device) (message : List ℕ) (room : ℕ) (P : List ℕ → Type 0) where
+  -- by the way of the call
+  of-call : (outcome : Telling) (bytes : List ℕ) → Called settings device message room outcome → (Lent (device .memory) room → P (respond settings device message .reply))
+      → outcome .told ≡ replied bytes → P bytes
+  of-call outcome bytes (heard pass) answers is =
+      let same : respond settings device message .reply ≡ bytes = cc in
+      rw same at (answers (lent device room pass))
+  of-call outcome bytes (unheard number found) answers is =
+      let never : true ≡ false = cc in
+      absurd (true≢false never)
+
+  -- what holds of the answer to a message holds of the reply that is told
+  pub reply-told : (bytes : List ℕ) → (Lent (device .memory) room → P (respond settings device message .reply)) → tell settings device message room .told ≡ replied bytes → P bytes
+  reply-told bytes answers is = of-call (tell settings device message room) bytes (called settings device message room) answers is
+
+-- ---- a reply that is a frame
+
+-- the number of a frame is its second byte
+pub same-number : (one other : ℕ) (first second : List ℕ) → frame crcStart one first ≡ frame crcStart other second → one ≡ other
+unfolding frame covered
+same-number one other first second is = ap (λ (bytes : List ℕ). getD bytes 1 0) is
+
+-- and what begins with another byte than every frame does is none
+pub no-frame : (bytes : List ℕ) (number : ℕ) (payload : List ℕ) → eqb (getD bytes 0 0) headByte ≡ false → bytes ≡ frame crcStart number payload → ⊥
+unfolding frame covered
+no-frame bytes number payload other is = eqb-false _ _ other (ap (λ (list : List ℕ). getD list 0 0) is)
