@@ -6,7 +6,6 @@ use mathlib.Core.List.{List, []}
 use mathlib.Core.Path.{_≡_, refl, sym, ap, subst, _∙_}
 use borrow.Author.Tests.{eqb-false, eqb-true, not-true}
 use lib.Dec.{eqb}
-use lib.ListN.{length}
 use Rattle.frame.specs.Frame.{covered, dataOf, frame}
 use Rattle.memory.specs.Stores.{same}
 use Rattle.shape.specs.MoreRights.{Growing, SameWork}
@@ -14,10 +13,10 @@ use Rattle.shape.specs.Shape.{Step, Verdict, passes, refuses, tells}
 use Rattle.tm32.specs.After.{Told, callChecks, noReply}
 use Rattle.tm32.specs.Checks.{Check, checks, checksOf, noneFails, numbersOf, protections, verdict}
 use Rattle.tm32.specs.Device.{Device, inState}
-use Rattle.tm32.specs.OptionMessages.{isTalking, optionMessage, touchesOptions}
+use Rattle.tm32.specs.OptionMessages.{optionMessage, touchesOptions}
 use Rattle.tm32.specs.Options.{ProtectAll, optionBytes}
 use Rattle.tm32.specs.Request.{requestIn}
-use Rattle.tm32.specs.Respond.{Answered, answered, greet, hello, isGone, isWaiting, refuse, replyTo}
+use Rattle.tm32.specs.Respond.{Answered, answered, greet, refuse, replyTo}
 use Rattle.tm32.specs.Results.{noHandshake, workDone}
 use Rattle.tm32.specs.Run.{Event, restarted, sent}
 use Rattle.tm32.specs.Work.{work}
@@ -25,17 +24,17 @@ use Rattle.tm32.specs.declared.Request.{Request}
 use Rattle.tm32.specs.declared.Session.{Session}
 use Rattle.tm32.specs.declared.Settings.{Settings}
 use Rattle.tm32.specs.declared.State.{State}
-use Rattle.tm32.specs.declared.State.the-variants.{Waiting, Talking, Gone}
+use Rattle.tm32.specs.declared.State.the-variants.{Talking}
 use Rattle.tm32.proofs.Accepted.{of-both, shaped-so}
 use Rattle.tm32.proofs.Verdicts.{checks-others, none-fails, passAll, request-others, second-list-decides}
 use Rattle.demands.specs.Demand1.Refusals.{isOneOf}
 use Rattle.demands.specs.Demand2.ReplyResults.{of-results}
-use Rattle.demands.specs.Demand3.OfShape.{Stricter, against, byMessage, doneWith, protectedFrom, refusal, replies, testedFirst, tm32}
+use Rattle.demands.specs.Demand3.OfShape.{Stricter, against, doneWith, protectedFrom, refusal, replies, testedFirst, tm32}
 use Rattle.demands.specs.Demand3.OptionsUnseen.{still-session, work-alike}
 use Rattle.demands.specs.Demand3.ProtectionGrows.{checks-other, isOther, isProtection, protections-others, protections-own, still-passes}
 use Rattle.demands.specs.Demand3.TwoDevices.{AlikeButOptions, isProtectionRefusal, optionEvent}
 use Rattle.demands.specs.Messages.FirstFailing.{Tells, all-pass, allPass, call-numbers, number-so, oneFails, told}
-use Rattle.demands.specs.Messages.Ways.{Known, lent}
+use Rattle.demands.specs.Messages.Ways.{Known, byMessage, lent, of-four, of-message}
 
 -- ---- the checks do not look at the option bytes
 
@@ -79,15 +78,10 @@ protection-grows : (strict loose : Device) (event : Event) → Stricter strict l
 unfolding protectedFrom byMessage
 protection-grows strict loose (sent message room) stricter free =
     rw (sym (stricter .alike .session))
-    (by-tests (eqb (length message) 0 || isGone (strict .session .state)) (same message hello) (isWaiting (strict .session .state))
-    (request-grows _ _ (requestIn message) (stricter .protects)) free)
-  where
-    by-tests : (silent greeted waiting : Bool) {strictly loosely : Verdict Told} → (strictly ≡ passes → loosely ≡ passes)
-        → cond silent passes (cond greeted passes (cond waiting passes strictly)) ≡ passes → cond silent passes (cond greeted passes (cond waiting passes loosely)) ≡ passes
-    by-tests true greeted waiting grows free = refl
-    by-tests false true waiting grows free = refl
-    by-tests false false true grows free = refl
-    by-tests false false false grows free = grows free
+    (of-message (λ choose.
+    choose (Verdict Told) passes passes passes (against (verdict workDone (protections (optionBytes (strict .memory .nvr)) (requestIn message)))) ≡ passes
+    → choose (Verdict Told) passes passes passes (against (verdict workDone (protections (optionBytes (loose .memory .nvr)) (requestIn message)))) ≡ passes)
+    (strict .session .state) message (λ unheeded is. refl) (λ here hail is. refl) (λ asks waits is. refl) (λ asks talks is. request-grows _ _ (requestIn message) (stricter .protects) is) free)
 protection-grows strict loose (restarted link) stricter free = refl
 
 -- ---- a refusal is known by its number
@@ -134,7 +128,7 @@ against-so P test list all so told is = by-test (eqb (verdict workDone list) wor
 
 -- a check before protection never tells a refusal for protection
 check-kind : (device : Device) (event : Event) (told : Told) → testedFirst device event ≡ refuses told → isProtectionRefusal told ≡ false
-unfolding testedFirst byMessage isProtectionRefusal
+unfolding testedFirst isProtectionRefusal
 check-kind device (sent message room) =
     let kind : Verdict Told → Type 0 = λ verdict. (told : Told) → verdict ≡ refuses told → isProtectionRefusal told ≡ false in
     let other : Told → Type 0 = λ told. isProtectionRefusal told ≡ false in
@@ -142,52 +136,38 @@ check-kind device (sent message room) =
     let number = verdict 0 (callChecks device room) in
     let free : kind passes = λ told is. absurd (nothing-told told is) in
     of-both kind (eqb number 0)
-    (of-both kind (eqb (length message) 0 || isGone (device .session .state)) free
-    (of-both kind (same message hello) free
-    (of-both kind (isWaiting (device .session .state)) (λ told is. told-so other (refusal noHandshake) told unshaken-other is)
-    (against-so other isOther (checks link (requestIn message)) (checks-other link (requestIn message))
-    (λ number so. refusal-number number ∙ not-true _ so)))))
+    (of-four kind (device .session .state) message free free (λ told is. told-so other (refusal noHandshake) told unshaken-other is)
+    (against-so other isOther (checks link (requestIn message)) (checks-other link (requestIn message)) (λ number so. refusal-number number ∙ not-true _ so)))
     (λ told is. told-so other (noReply number) told refl is)
 check-kind device (restarted link) = λ told is. absurd (nothing-told told is)
 
 -- and protection tells nothing else
 protection-kind : (device : Device) (event : Event) (told : Told) → protectedFrom device event ≡ refuses told → isProtectionRefusal told ≡ true
-unfolding protectedFrom byMessage
+unfolding protectedFrom
 protection-kind device (sent message room) =
     let kind : Verdict Told → Type 0 = λ verdict. (told : Told) → verdict ≡ refuses told → isProtectionRefusal told ≡ true in
     let options = optionBytes (device .memory .nvr) in
     let free : kind passes = λ told is. absurd (nothing-told told is) in
-    of-both kind (eqb (length message) 0 || isGone (device .session .state)) free
-    (of-both kind (same message hello) free
-    (of-both kind (isWaiting (device .session .state)) free
+    of-four kind (device .session .state) message free free free
     (against-so (λ told. isProtectionRefusal told ≡ true) isProtection (protections options (requestIn message)) (protections-own options (requestIn message))
-    (λ number so. refusal-number number ∙ so))))
+    (λ number so. refusal-number number ∙ so))
 protection-kind device (restarted link) = λ told is. absurd (nothing-told told is)
 
 -- nor does work tell one
 work-kind : (settings : Settings) (device : Device) (event : Event) → tells isProtectionRefusal (doneWith settings device event .told) ≡ false
-unfolding doneWith byMessage tells isProtectionRefusal greet refuse replyTo frame covered isOneOf
+unfolding doneWith tells isProtectionRefusal greet refuse replyTo frame covered isOneOf
 work-kind settings device (sent message room) =
     let kind : Answered → Type 0 = λ answer. tells isProtectionRefusal (replies answer .told) ≡ false in
-    of-both kind (eqb (length message) 0 || isGone (device .session .state)) refl
-    (of-both kind (same message hello) refl
-    (of-both kind (isWaiting (device .session .state)) refl
-    (of-results (λ (number : ℕ). (isProtection number || false) ≡ false) refl refl refl refl settings device (dataOf message) (requestIn message))))
+    of-four kind (device .session .state) message refl refl refl
+    (of-results (λ (number : ℕ). (isProtection number || false) ≡ false) refl refl refl refl settings device (dataOf message) (requestIn message))
 work-kind settings device (restarted link) = refl
 
 -- ---- the work does not look at the option bytes
 
--- where neither of two tests passes, the second does not
-second-fails : (one other : Bool) → (one || other) ≡ false → other ≡ false
-second-fails true other fails = absurd (true≢false fails)
-second-fails false other fails = fails
-
--- a session that has neither Gone nor Waits is Talking
-talking : (state : State) → isGone state ≡ false → isWaiting state ≡ false → isTalking state ≡ true
-unfolding isTalking
-talking Waiting present shaken = absurd (true≢false shaken)
-talking Talking present shaken = refl
-talking (Gone address) present shaken = absurd (true≢false present)
+-- a call that passes is heard, and its message passes
+hears-so : (hears : Bool) (first : Verdict Told) (told : Told) → cond hears first (refuses told) ≡ passes → (hears ≡ true) × (first ≡ passes)
+hears-so true first told is = (refl, is)
+hears-so false first told is = absurd (nothing-told told (sym is))
 
 module _ (settings : Settings) (strict loose : Device) (message : List ℕ) (room : ℕ) (stricter : Stricter strict loose) where
   -- what is known of a request that passes all that is tested
@@ -206,46 +186,31 @@ module _ (settings : Settings) (strict loose : Device) (message : List ℕ) (roo
             (second-list-decides workDone (protections options request) (checks link request) (checks-others link request) first ∙ second);
       }
 
-  -- by the tests that are made of a message
-  by-tests : (hears silent greeted waiting : Bool)
-      → cond hears (cond silent passes (cond greeted passes (cond waiting (refuses (refusal noHandshake)) (against (verdict workDone (checks (strict .session .link) (requestIn message)))))))
-      (refuses (noReply (verdict 0 (callChecks strict room)))) ≡ passes
-      → cond silent passes (cond greeted passes (cond waiting passes (against (verdict workDone (protections (optionBytes (strict .memory .nvr)) (requestIn message)))))) ≡ passes
-      → (hears ≡ true → silent ≡ false → waiting ≡ false → against (verdict workDone (checks (strict .session .link) (requestIn message))) ≡ passes
-      → against (verdict workDone (protections (optionBytes (strict .memory .nvr)) (requestIn message))) ≡ passes
-      → SameWork Stricter (replies (replyTo (work settings strict (dataOf message) (requestIn message)))) (replies (replyTo (work settings loose (dataOf message) (requestIn message)))))
-      → SameWork Stricter
-      (replies
-      (cond silent (answered strict [])
-      (cond greeted (greet strict)
-      (cond waiting (refuse strict noHandshake)
-      (replyTo (work settings strict (dataOf message) (requestIn message)))))))
-      (replies
-      (cond silent (answered loose [])
-      (cond greeted (greet loose)
-      (cond waiting (refuse loose noHandshake)
-      (replyTo (work settings loose (dataOf message) (requestIn message)))))))
-  unfolding greet refuse
-  by-tests false silent greeted waiting checked free asked = absurd (nothing-told _ (sym checked))
-  by-tests true true greeted waiting checked free asked = record { told = refl; stricter = stricter }
-  by-tests true false true waiting checked free asked =
-      record { told = refl; stricter = still-session strict loose stricter _ _ (ap (λ (session : Session). inState session Talking) (stricter .alike .session)) }
-  by-tests true false false true checked free asked = record { told = refl; stricter = stricter }
-  by-tests true false false false checked free asked = asked refl refl refl checked free
-
   -- a message
   message-alike : optionMessage strict message room ≡ false → testedFirst strict (sent message room) ≡ passes → protectedFrom strict (sent message room) ≡ passes
       → SameWork Stricter (doneWith settings strict (sent message room)) (doneWith settings loose (sent message room))
-  unfolding testedFirst protectedFrom doneWith byMessage optionMessage
+  unfolding testedFirst protectedFrom doneWith byMessage optionMessage greet refuse
   message-alike spared checked free =
-      let on : State → Step Device Told = λ state. replies (byMessage state message (answered loose []) (greet loose) (refuse loose noHandshake) (replyTo (work settings loose (dataOf message) (requestIn message)))) in
+      let request = requestIn message in
+      let heard = hears-so (eqb (verdict 0 (callChecks strict room)) 0) _ _ checked in
+      let on : State → Step Device Told = λ state. replies (byMessage state message (answered loose []) (greet loose) (refuse loose noHandshake) (replyTo (work settings loose (dataOf message) request))) in
       subst (λ (state : State). SameWork Stricter (doneWith settings strict (sent message room)) (on state)) (ap (λ (session : Session). session .state) (stricter .alike .session))
-      (by-tests (eqb (verdict 0 (callChecks strict room)) 0) (eqb (length message) 0 || isGone (strict .session .state)) (same message hello) (isWaiting (strict .session .state)) checked free
-      (λ hears heard shaken passed unprotected.
-      let pass = none-fails 0 (callChecks strict room) (call-numbers strict room) (eqb-true _ _ hears) in
-      let talks = talking (strict .session .state) (second-fails (eqb (length message) 0) (isGone (strict .session .state)) heard) shaken in
-      let untouched : touchesOptions (requestIn message) ≡ false = rw (hears, talks) at spared in
-      work-alike settings strict loose room (dataOf message) stricter (requestIn message) (known-so pass passed unprotected) untouched))
+      (of-message (λ choose.
+      choose (Verdict Told) passes passes (refuses (refusal noHandshake)) (against (verdict workDone (checks (strict .session .link) request))) ≡ passes
+      → choose (Verdict Told) passes passes passes (against (verdict workDone (protections (optionBytes (strict .memory .nvr)) request))) ≡ passes
+      → SameWork Stricter
+      (replies (choose Answered (answered strict []) (greet strict) (refuse strict noHandshake) (replyTo (work settings strict (dataOf message) request))))
+      (replies (choose Answered (answered loose []) (greet loose) (refuse loose noHandshake) (replyTo (work settings loose (dataOf message) request)))))
+      (strict .session .state) message
+      (λ unheeded first second. record { told = refl; stricter = stricter })
+      (λ here hail first second.
+      record { told = refl; stricter = still-session strict loose stricter _ _ (ap (λ (session : Session). inState session Talking) (stricter .alike .session)) })
+      (λ asks waits first second. record { told = refl; stricter = stricter })
+      (λ asks talks first second.
+      let pass = none-fails 0 (callChecks strict room) (call-numbers strict room) (eqb-true _ _ (heard .0)) in
+      let untouched : touchesOptions request ≡ false = rw (heard .0, talks) at spared in
+      work-alike settings strict loose room (dataOf message) stricter request (known-so pass first second) untouched)
+      (heard .1) free)
 
 -- and every event that neither reads nor writes the option bytes
 event-alike : (settings : Settings) (strict loose : Device) (event : Event) → Stricter strict loose → optionEvent strict event ≡ false → testedFirst strict event ≡ passes

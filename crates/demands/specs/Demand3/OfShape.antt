@@ -1,36 +1,26 @@
 -- Document 01, "A message and its reply": the TM32G07x is a device of our shape. What it does with an event falls into checks, protection and work, and is put together from them as any such device's is.
 use Prim.Native.Nat.{ℕ}
-use mathlib.Core.Bool.{Bool, true, false, cond, _||_}
+use mathlib.Core.Bool.{Bool, true, false, cond}
 use mathlib.Core.List.{List, [], _∷_, _++_}
 use mathlib.Core.Path.{_≡_, refl, ap, fun-ext}
 use borrow.Author.Tests.{eqb-false, eqb-true}
 use lib.Dec.{eqb}
-use lib.ListN.{length}
 use Rattle.frame.specs.Frame.{dataOf, frame}
-use Rattle.memory.specs.Stores.{same}
 use Rattle.shape.specs.Shape.{Shape, Step, Verdict, judged, passes, refuses, runBy, stepIn, stepOf}
 use Rattle.tm32.specs.After.{Telling, Told, callChecks, noReply, replied, tell, telling}
 use Rattle.tm32.specs.Checks.{checks, protections, verdict}
 use Rattle.tm32.specs.Device.{Device, crcStart, restart, withSession}
 use Rattle.tm32.specs.Options.{ProtectAll, optionBytes}
 use Rattle.tm32.specs.Request.{requestIn}
-use Rattle.tm32.specs.Respond.{Answered, answered, greet, hello, isGone, isWaiting, refuse, replyTo, respond, serve, verdictOn}
+use Rattle.tm32.specs.Respond.{Answered, answered, greet, refuse, replyTo, respond, serve, verdictOn}
 use Rattle.tm32.specs.Results.{noHandshake, workDone}
 use Rattle.tm32.specs.Run.{Event, restarted, run, sent}
 use Rattle.tm32.specs.Work.{work}
 use Rattle.tm32.specs.declared.Request.{Request}
 use Rattle.tm32.specs.declared.Settings.{Settings}
-use Rattle.tm32.specs.declared.State.{State}
 use Rattle.tm32.proofs.Verdicts.{checks-others, first-list-decides, second-list-decides}
 use Rattle.demands.specs.Demand3.TwoDevices.{AlikeButOptions, happens, isProtectionRefusal}
-
--- One of four, by what a message is to a session in a state: met with silence, the handshake, another before it, or a request.
-unfoldable pub byMessage : {A : Type 0} → State → List ℕ → A → A → A → A → A
-byMessage state message silent greeted unshaken asked =
-    cond (eqb (length message) 0 || isGone state) silent
-    (cond (same message hello) greeted
-    (cond (isWaiting state) unshaken
-    asked))
+use Rattle.demands.specs.Messages.Ways.{byMessage, of-message}
 
 -- What the caller is told of a refusal, and what a number says that may be one.
 abbrev pub refusal : ℕ → Told
@@ -115,41 +105,26 @@ module _ (settings : Settings) (device : Device) (payload : List ℕ) (request :
 
 -- ---- an event
 
-module _ (settings : Settings) (device : Device) (message : List ℕ) (room : ℕ) where
-  -- by the tests that are made of a message
-  by-tests : (number : ℕ) (heard silent greeted waiting : Bool)
-      → calls
-      (let response : Answered =
-      cond silent (answered device [])
-      (cond greeted (greet device)
-      (cond waiting (refuse device noHandshake)
-      (serve settings device (dataOf message) (requestIn message))))
-      in
-      cond heard (telling (response .device) (replied (response .reply))) (telling device (noReply number)))
-      ≡ judged device
-      (cond heard
-      (cond silent passes (cond greeted passes (cond waiting (refuses (refusal noHandshake)) (against (verdict workDone (checks (device .session .link) (requestIn message)))))))
-      (refuses (noReply number)))
-      (judged device
-      (cond silent passes (cond greeted passes (cond waiting passes (against (verdict workDone (protections (optionBytes (device .memory .nvr)) (requestIn message)))))))
-      (replies
-      (cond silent (answered device [])
-      (cond greeted (greet device)
-      (cond waiting (refuse device noHandshake)
-      (replyTo (work settings device (dataOf message) (requestIn message))))))))
-  unfolding judged refuse
-  by-tests number false silent greeted waiting = refl
-  by-tests number true true greeted waiting = refl
-  by-tests number true false true waiting = refl
-  by-tests number true false false true = refl
-  by-tests number true false false false = request-judged settings device (dataOf message) (requestIn message)
+-- by whether a call is heard
+by-call : (device : Device) (hears : Bool) (number : ℕ) (answer : Answered) (first : Verdict Told) (rest : Step Device Told) → replies answer ≡ judged device first rest
+    → calls (cond hears (telling (answer .device) (replied (answer .reply))) (telling device (noReply number))) ≡ judged device (cond hears first (refuses (noReply number))) rest
+unfolding judged
+by-call device true number answer first rest is = is
+by-call device false number answer first rest is = refl
 
-  -- a message
-  message-judged : calls (tell settings device message room) ≡ stepIn (tm32 settings) device (sent message room)
-  unfolding tell respond stepIn testedFirst protectedFrom doneWith byMessage
-  message-judged =
-      let number = verdict 0 (callChecks device room) in
-      by-tests number (eqb number 0) (eqb (length message) 0 || isGone (device .session .state)) (same message hello) (isWaiting (device .session .state))
+-- a message
+message-judged : (settings : Settings) (device : Device) (message : List ℕ) (room : ℕ) → calls (tell settings device message room) ≡ stepIn (tm32 settings) device (sent message room)
+unfolding tell respond stepIn testedFirst protectedFrom doneWith byMessage judged refuse
+message-judged settings device message room =
+    let number = verdict 0 (callChecks device room) in
+    let request = requestIn message in
+    by-call device (eqb number 0) number (respond settings device message) _ _
+    (of-message (λ choose.
+    replies (choose Answered (answered device []) (greet device) (refuse device noHandshake) (serve settings device (dataOf message) request))
+    ≡ judged device (choose (Verdict Told) passes passes (refuses (refusal noHandshake)) (against (verdict workDone (checks (device .session .link) request))))
+    (judged device (choose (Verdict Told) passes passes passes (against (verdict workDone (protections (optionBytes (device .memory .nvr)) request))))
+    (replies (choose Answered (answered device []) (greet device) (refuse device noHandshake) (replyTo (work settings device (dataOf message) request))))))
+    (device .session .state) message (λ unheeded. refl) (λ here hail. refl) (λ asks waits. refl) (λ asks talks. request-judged settings device (dataOf message) request))
 
 -- what comes of an event is what the shape makes of checks, protection and work
 pub happens-so : (settings : Settings) (device : Device) (event : Event) → happens settings device event ≡ stepIn (tm32 settings) device event

@@ -33,6 +33,14 @@ pub record NeitherEmptyNorHello (message : List ℕ) : Type 0 where
   pub some : eqb (length message) 0 ≡ false
   pub other : same message hello ≡ false
 
+-- One of four, by what a message is to a session in a state: met with silence, the handshake, another before it, or a request.
+unfoldable pub byMessage : {A : Type 0} → State → List ℕ → A → A → A → A → A
+byMessage state message silent greeted unshaken asked =
+    cond (eqb (length message) 0 || isGone state) silent
+    (cond (same message hello) greeted
+    (cond (isWaiting state) unshaken
+    asked))
+
 -- The ways of a message that is heard, each with the tests that lead there: an empty reply, the handshake, a refusal before it or by a check, and work.
 pub data Heard (settings : Settings) (device : Device) (message : List ℕ) : Answered → Type 0 where
   silent : (eqb (length message) 0 || isGone (device .session .state)) ≡ true → Heard settings device message (answered device [])
@@ -71,6 +79,33 @@ talking-here Waiting talks = absurd (false≢true talks)
 talking-here Talking talks = (refl, refl)
 talking-here (Gone address) talks = absurd (false≢true talks)
 
+module _ (P : ((A : Type 0) → A → A → A → A → A) → Type 0) (state : State) (message : List ℕ)
+    (silence : (eqb (length message) 0 || isGone state) ≡ true → P (λ A one two three four. one))
+    (hail : isGone state ≡ false → same message hello ≡ true → P (λ A one two three four. two))
+    (early : NeitherEmptyNorHello message → isWaiting state ≡ true → P (λ A one two three four. three))
+    (request : NeitherEmptyNorHello message → isTalking state ≡ true → P (λ A one two three four. four)) where
+  -- by the tests that are made of a message
+  by-tests : (empty hails : Bool) (now : State) → eqb (length message) 0 ≡ empty → same message hello ≡ hails → state ≡ now
+      → P (λ A one two three four. cond (empty || isGone now) one (cond hails two (cond (isWaiting now) three four)))
+  unfolding isTalking
+  by-tests true hails now none other is = silence (rw none)
+  by-tests false hails (Gone address) some other is = silence (rw (some, is))
+  by-tests false true Waiting some hails is = hail (rw is) hails
+  by-tests false true Talking some hails is = hail (rw is) hails
+  by-tests false false Waiting some other is = early (record { some = some; other = other }) (rw is)
+  by-tests false false Talking some other is = request (record { some = some; other = other }) (rw is)
+
+  -- what holds of each of four choices, where the tests of a message lead to it, holds of the choice by the message
+  pub of-message : P (λ A. byMessage {A = A} state message)
+  unfolding byMessage
+  of-message = by-tests (eqb (length message) 0) (same message hello) state refl refl refl
+
+-- so what holds of all four holds of the one
+pub of-four : {A : Type 0} (P : A → Type 0) (state : State) (message : List ℕ) {one two three four : A} → P one → P two → P three → P four
+    → P (byMessage state message one two three four)
+of-four P state message {one} {two} {three} {four} silence hail early request =
+    of-message (λ choose. P (choose _ one two three four)) state message (λ unheeded. silence) (λ here hails. hail) (λ asks waits. early) (λ asks talks. request)
+
 module _ (settings : Settings) (device : Device) (message : List ℕ) where
   -- a request is refused or worked on
   on-request : NeitherEmptyNorHello message → isTalking (device .session .state) ≡ true → (answer : Answered) → Served settings device (dataOf message) (requestIn message) answer
@@ -78,26 +113,12 @@ module _ (settings : Settings) (device : Device) (message : List ℕ) where
   on-request asks talks answer (refused number found) = turnedAway asks talks number found
   on-request asks talks answer (accepted pass) = workedOn asks talks pass
 
-  -- by the tests that are made of a message
-  by-tests : (empty hails : Bool) (state : State) → eqb (length message) 0 ≡ empty → same message hello ≡ hails → device .session .state ≡ state
-      → Heard settings device message
-      (cond (empty || isGone state) (answered device [])
-      (cond hails (greet device)
-      (cond (isWaiting state) (refuse device noHandshake)
-      (serve settings device (dataOf message) (requestIn message)))))
-  unfolding isTalking
-  by-tests true hails state none other is = silent (rw none)
-  by-tests false hails (Gone address) some other is = silent (rw (some, is))
-  by-tests false true Waiting some hail is = greeted (rw is) hail
-  by-tests false true Talking some hail is = greeted (rw is) hail
-  by-tests false false Waiting some other is = unshaken (record { some = some; other = other }) (rw is)
-  by-tests false false Talking some other is =
-      on-request (record { some = some; other = other }) (rw is) _ (served settings device (dataOf message) (requestIn message))
-
   -- every message goes one of them
   pub heard-so : Heard settings device message (respond settings device message)
-  unfolding respond
-  heard-so = by-tests (eqb (length message) 0) (same message hello) (device .session .state) refl refl refl
+  unfolding respond byMessage
+  heard-so =
+      of-message (λ choose. Heard settings device message (choose Answered (answered device []) (greet device) (refuse device noHandshake) (serve settings device (dataOf message) (requestIn message))))
+      (device .session .state) message silent greeted unshaken (λ asks talks. on-request asks talks _ (served settings device (dataOf message) (requestIn message)))
 
   -- what is neither empty nor the handshake is refused while Waiting
   pub before-hello : NeitherEmptyNorHello message → isWaiting (device .session .state) ≡ true → respond settings device message ≡ refuse device noHandshake
