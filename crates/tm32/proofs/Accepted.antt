@@ -15,6 +15,7 @@ use Rattle.tm32.specs.Device.{Device, crcStart}
 use Rattle.tm32.specs.Map.{inReadRegion, inUserRegion, optionsLength, pageCount}
 use Rattle.tm32.specs.Numbers.{fromOneTo}
 use Rattle.tm32.specs.Options.{optionBytes, underWrp}
+use Rattle.tm32.specs.Promises.{LetThrough}
 use Rattle.tm32.specs.Request.{exactly, readAs, requestIn, requestOf, writeIn}
 use Rattle.tm32.specs.Respond.{verdictOn}
 use Rattle.tm32.specs.Results.{workDone}
@@ -39,6 +40,10 @@ unfolding verdictOn
 let-through device {request} {known} named passes =
     none-fails workDone _ (request-others (device .session .link) (optionBytes (device .memory .nvr)) known)
     (ap (verdictOn device) (sym named) ∙ passes)
+
+-- the same of one that is known to be let through
+pub passed-as : {request known : Request} → request ≡ known → (lets : LetThrough request) → noneFails (checksOf (lets .link) (lets .options) known) ≡ true
+passed-as named lets = ap (λ (one : Request). noneFails (checksOf (lets .link) (lets .options) one)) (sym named) ∙ lets .passes
 
 -- a length that Read and Write take is no more than the most
 most : (count : ℕ) → isLength count ≡ true → count ≤ mostBytes

@@ -23,17 +23,17 @@ use crate::requests::bytes_to_write;
 use crate::requests::request_in;
 use crate::results::NO_HANDSHAKE;
 use crate::results::WORK_DONE;
-use crate::results::WRONG_SHAPE;
 use crate::write;
 use crate::write_options;
-ghost use mathlib.Core.Path.{_≡_};
 ghost use Prim.Native.Nat.{_≤_};
+ghost use mathlib.Core.List.{[]};
+ghost use mathlib.Core.Path.{_≡_};
 ghost use lib.ListN.{length};
-ghost use Rattle.frame.specs.Frame.{dataOf};
+ghost use Rattle.frame.specs.Frame.{dataOf, frame};
 ghost use Rattle.memory.specs.Stores.{same};
 ghost use Rattle.tm32.specs.After.{after, replyRoom};
-ghost use Rattle.tm32.specs.Device.{deviceOf, inState, memoryOf};
-ghost use Rattle.tm32.specs.Promises.{Laid, Lent, layAnswer, leaves, turnOf};
+ghost use Rattle.tm32.specs.Device.{crcStart, deviceOf, inState, memoryOf};
+ghost use Rattle.tm32.specs.Promises.{Changed, GoesOn, Laid, Lent, LetThrough, layAnswer, leaves, turnOf};
 ghost use Rattle.tm32.specs.Request.{requestIn};
 ghost use Rattle.tm32.specs.Respond.{hello, helloBack, isGone, isWaiting, replyTo, respond as respondIs, serve as serveIs, verdictOn};
 ghost use Rattle.tm32.specs.Results.{workDone};
@@ -202,7 +202,7 @@ fn serve(
     work(session, settings, request, message, flash, ram, nvr, buffer)
 }
 
-// The work of a request that the checks let through.
+// The work of a request that the checks let through: what it changes in the memory, the session from then on, and the reply.
 fn work(
     session: Session,
     settings: Settings,
@@ -221,42 +221,82 @@ fn work(
         (replyTo (workIs settings (deviceOf session (memoryOf (now (flash .entry)) (now (ram .entry)) (now (nvr .entry))))
         (dataOf (now (message .entry))) request)) ⌝ }
 {
+    let result = change(request, message, flash, ram, nvr);
+    let next = onward(session, request);
+    answered(next, settings, request, result, flash, ram, nvr, buffer)
+}
+
+// What a request changes in the memory, and its result.
+fn change(request: Request, message: &[u8], flash: &mut [u8], ram: &mut [u8], nvr: &mut [u8]) -> u8
+    requires { ⌜ Lent (memoryOf (now flash) (now ram) (now nvr)) replyRoom ⌝ }
+    requires { ⌜ request ≡ requestIn (now message) ⌝ }
+    requires { ⌜ LetThrough request ⌝ }
+    ensures { λ r. ⌜ Changed (memoryOf (now (flash .entry)) (now (ram .entry)) (now (nvr .entry))) (dataOf (now (message .entry)))
+        request (memoryOf (now (flash .exit)) (now (ram .exit)) (now (nvr .exit))) r ⌝ }
+{
     match request {
-        Request::Pps { code } => reply(pps::work(session, code), WORK_DONE, buffer),
-        Request::Get => reply_with(session, WORK_DONE, &get::work(settings), buffer),
-        Request::Read { address, count } => {
-            let bytes = read::work(flash, ram, nvr, address, count);
-            reply_with(session, WORK_DONE, bytes, buffer)
-        }
         Request::Write {
             flag,
             address,
             count: _,
         } => {
             let bytes = bytes_to_write(frame::data_of(message));
-            let result = write::work(flash, ram, nvr, flag, address, bytes);
-            reply(session, result, buffer)
+            write::work(flash, ram, nvr, flag, address, bytes)
         }
         Request::MemoryCrc {
             address,
             count,
             crc,
-        } => {
-            let result = memory_crc::work(flash, ram, nvr, address, count, crc);
-            reply(session, result, buffer)
-        }
+        } => memory_crc::work(flash, ram, nvr, address, count, crc),
         Request::Erase { first, count } => {
             erase::work(flash, first, count);
-            reply(session, WORK_DONE, buffer)
+            WORK_DONE
         }
-        Request::Go { address } => reply(go::work(session, address), WORK_DONE, buffer),
         Request::WriteOptions => {
             write_options::work(flash, nvr, frame::data_of(message));
-            reply(session, WORK_DONE, buffer)
+            WORK_DONE
         }
-        Request::ReadOptions => reply_with(session, WORK_DONE, read_options::work(nvr), buffer),
-        Request::HeartBeat => reply(heart_beat::work(session), WORK_DONE, buffer),
-        // The checks let none of these through.
-        Request::Misshapen => reply(session, WRONG_SHAPE, buffer),
+        // The others change nothing, and the checks let nothing misshapen through.
+        _ => WORK_DONE,
+    }
+}
+
+// The session once a request is worked on.
+fn onward(session: Session, request: Request) -> Session
+    ensures { λ r. ⌜ GoesOn session request r ⌝ }
+{
+    match request {
+        Request::Pps { code } => pps::work(session, code),
+        Request::Go { address } => go::work(session, address),
+        Request::HeartBeat => heart_beat::work(session),
+        _ => session,
+    }
+}
+
+// The reply to a request whose work is done: three of them have data.
+fn answered<'a>(
+    session: Session,
+    settings: Settings,
+    request: Request,
+    result: u8,
+    flash: &'a [u8],
+    ram: &'a [u8],
+    nvr: &'a [u8],
+    buffer: &mut [u8],
+) -> Turn
+    requires { ⌜ Lent (memoryOf (now flash) (now ram) (now nvr)) (length (now buffer)) ⌝ }
+    requires { ⌜ LetThrough request ⌝ }
+    ensures { λ r. ⌜ Laid r (now (buffer .exit)) session
+        (frame crcStart result (workIs settings (deviceOf session (memoryOf (now (flash .entry)) (now (ram .entry)) (now (nvr .entry)))) [] request .payload))
+        (now (buffer .entry)) ⌝ }
+{
+    match request {
+        Request::Get => reply_with(session, result, &get::work(settings), buffer),
+        Request::Read { address, count } => {
+            let bytes = read::work(flash, ram, nvr, address, count);
+            reply_with(session, result, bytes, buffer)
+        }
+        Request::ReadOptions => reply_with(session, result, read_options::work(nvr), buffer),
+        _ => reply(session, result, buffer),
     }
 }
