@@ -5,7 +5,7 @@ use tm32::NVR_LENGTH;
 use tm32::RAM_LENGTH;
 ghost use mathlib.Core.Path.{_≡_};
 ghost use lib.ListN.{length};
-ghost use Rattle.tm32.specs.Map.{flashLength, nvrLength, ramLength};
+ghost use Rattle.tm32_asks.specs.Map.{flashLength, nvrLength, ramLength};
 
 pub(crate) fn flash() -> [u8; FLASH_LENGTH as usize]
     ensures { λ r. ⌜ flashLength ≡ length r ⌝ }

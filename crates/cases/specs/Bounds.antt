@@ -7,16 +7,16 @@ use Rattle.frame.specs.Frame.{covered, dataOf, frame, reading, word, wordAt}
 use Rattle.memory.specs.Pages.{covers, somePage, someFrom, touched}
 use Rattle.memory.specs.Ranges.{within}
 use Rattle.memory.specs.Stores.{kept, masked, part, replaced, same}
-use Rattle.tm32.specs.Checks.{checks, flashPages, protections, readChecks, verdict, writeChecks}
+use Rattle.tm32_asks.specs.Checks.{checks, flashPages, protections, readChecks, verdict, writeChecks}
 use Rattle.tm32.specs.Device.{bytesAt, sessionOf, start, withSession}
 use Rattle.tm32.specs.Fresh.{freshDevice, freshFlash, freshNvr, freshOptions, freshRam, freshSettings}
-use Rattle.tm32.specs.Map.{inReadRegion, inUserRegion}
-use Rattle.tm32.specs.Numbers.{fromOneTo, long, longAt}
-use Rattle.tm32.specs.Options.{inEither, optionBytes, rdpOn}
-use Rattle.tm32.specs.Request.{exactly, readAs, requestIn, requestOf, writeIn}
+use Rattle.tm32_asks.specs.Map.{inReadRegion, inUserRegion}
+use Rattle.tm32_asks.specs.Numbers.{fromOneTo, long, longAt}
+use Rattle.tm32_asks.specs.Options.{inEither, optionBytes, rdpOn}
+use Rattle.tm32_asks.specs.Request.{exactly, readAs, requestIn, requestOf, writeIn}
 use Rattle.tm32.specs.Respond.{greet, refuse, replyTo, respond, serve, verdictOn}
 use Rattle.tm32.specs.Work.{commandWord, compared, erased, information, readback, toldCommands, wiped, wipes, withOptions, work, written}
-use Rattle.tm32.specs.declared.Link.the-variants.{Spi}
+use Rattle.tm32_asks.specs.declared.Link.the-variants.{Spi}
 use Rattle.tm32.specs.declared.State.the-variants.{Talking, Gone}
 use Rattle.cases.specs.Cases.{Case, atCode, blankBeside, blankDevice, blankFlash, case, computed, expected, filled, fresh, fullDevice, fullFlash, onBench, pcrop5, pcrop5wrp7, prepared, put, rdp, wrp7}
 use Rattle.cases.specs.Wire.{askErase, askGet, askGo, askMemoryCrc, askPps, askRead, askReadOptions, askWrite, askWriteOptions, done, first, halfwords, handshake, heartBeat, hex, little, message, noPages, off, options, shaken}

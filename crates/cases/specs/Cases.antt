@@ -6,7 +6,7 @@ use lib.ListN.{replicate}
 use Rattle.tm32.specs.Device.{Device, deviceOf, memoryOf, sessionOf, withSession}
 use Rattle.tm32.specs.Fresh.{freshDevice, freshSettings}
 use Rattle.tm32.specs.Respond.{Answered, answered, respond}
-use Rattle.tm32.specs.declared.Link.the-variants.{Uart}
+use Rattle.tm32_asks.specs.declared.Link.the-variants.{Uart}
 use Rattle.tm32.specs.declared.State.{State}
 use Rattle.tm32.specs.declared.State.the-variants.{Talking, Waiting}
 use Rattle.cases.specs.Wire.{askWrite, first, handshake, noPages, off, options, second}

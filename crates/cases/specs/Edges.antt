@@ -9,13 +9,13 @@ use Rattle.frame.specs.Frame.{covered, dataOf, frame, reading, word, wordAt}
 use Rattle.memory.specs.Pages.{covers, somePage, someFrom, touched}
 use Rattle.memory.specs.Ranges.{within}
 use Rattle.memory.specs.Stores.{kept, masked, part, replaced, same}
-use Rattle.tm32.specs.Checks.{checks, flashPages, protections, readChecks, verdict, writeChecks}
+use Rattle.tm32_asks.specs.Checks.{checks, flashPages, protections, readChecks, verdict, writeChecks}
 use Rattle.tm32.specs.Device.{bytesAt}
 use Rattle.tm32.specs.Fresh.{freshDevice, freshFlash, freshNvr, freshOptions, freshRam, freshSettings}
-use Rattle.tm32.specs.Map.{inReadRegion, inUserRegion}
-use Rattle.tm32.specs.Numbers.{fromOneTo, longAt}
-use Rattle.tm32.specs.Options.{inEither, optionBytes, rdpOn}
-use Rattle.tm32.specs.Request.{exactly, readAs, requestIn, requestOf, writeIn}
+use Rattle.tm32_asks.specs.Map.{inReadRegion, inUserRegion}
+use Rattle.tm32_asks.specs.Numbers.{fromOneTo, longAt}
+use Rattle.tm32_asks.specs.Options.{inEither, optionBytes, rdpOn}
+use Rattle.tm32_asks.specs.Request.{exactly, readAs, requestIn, requestOf, writeIn}
 use Rattle.tm32.specs.Respond.{greet, refuse, replyTo, respond, serve, verdictOn}
 use Rattle.tm32.specs.Work.{erased, readback, wiped, wipes, withOptions, work, written}
 use Rattle.tm32.specs.declared.State.the-variants.{Waiting, Talking}

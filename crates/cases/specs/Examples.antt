@@ -11,19 +11,19 @@ use Rattle.memory.specs.Pages.{covers}
 use Rattle.memory.specs.Ranges.{within}
 use Rattle.memory.specs.Stores.{replaced, same}
 use Rattle.tm32.specs.After.{after, callChecks, lay, noReply, replied, tell}
-use Rattle.tm32.specs.Checks.{checks, protections, verdict}
+use Rattle.tm32_asks.specs.Checks.{checks, protections, verdict}
 use Rattle.tm32.specs.Device.{Device, deviceOf, memoryOf, sessionOf, withSession}
 use Rattle.tm32.specs.Fresh.{freshDevice, freshFlash, freshNvr, freshOptions, freshRam, freshSettings}
-use Rattle.tm32.specs.Map.{flashLength, flashStart, nvrLength, nvrStart, pageCount, ramLength, ramStart, userNvrLength, userNvrStart}
+use Rattle.tm32_asks.specs.Map.{flashLength, flashStart, nvrLength, nvrStart, pageCount, ramLength, ramStart, userNvrLength, userNvrStart}
 use Rattle.tm32.specs.OptionMessages.{isTalking, optionMessage, readsOptions, touchesOptions}
-use Rattle.tm32.specs.Options.{inEither, rdpOn, underPcrop, underWrp}
-use Rattle.tm32.specs.Rates.{bitsPerSecond, rates}
-use Rattle.tm32.specs.Numbers.{fromOneTo, long, longAt}
-use Rattle.tm32.specs.Request.{exactly, readAs, requestIn, requestOf}
+use Rattle.tm32_asks.specs.Options.{inEither, rdpOn, underPcrop, underWrp}
+use Rattle.tm32_asks.specs.Rates.{bitsPerSecond, rates}
+use Rattle.tm32_asks.specs.Numbers.{fromOneTo, long, longAt}
+use Rattle.tm32_asks.specs.Request.{exactly, readAs, requestIn, requestOf}
 use Rattle.tm32.specs.Respond.{greet, refuse, replyTo, respond, serve, verdictOn}
 use Rattle.tm32.specs.Run.{restarted, run, sent}
 use Rattle.tm32.specs.Work.{commandWord, information, spi1, toldCommands, uart1, uart2, work}
-use Rattle.tm32.specs.declared.Link.the-variants.{Spi, Uart}
+use Rattle.tm32_asks.specs.declared.Link.the-variants.{Spi, Uart}
 use Rattle.tm32.specs.declared.State.the-variants.{Talking}
 use Rattle.cases.specs.Wire.{askRead, askReadOptions, askWriteOptions, done, halfwords, handshake, heartBeat, hex, little, message, off, options, shaken}
 

@@ -15,17 +15,17 @@ use Rattle.memory.specs.Ranges.{within}
 use Rattle.memory.specs.Stores.{holds, kept, masked, part, replaced, replacing, same}
 use Rattle.memory.specs.declared.PageRun.{PageRun}
 use Rattle.tm32.specs.After.{after, callChecks, lay, tell}
-use Rattle.tm32.specs.Checks.{checks, flashPages, isUart, protections, readChecks, verdict, writeChecks}
+use Rattle.tm32_asks.specs.Checks.{checks, flashPages, isUart, protections, readChecks, verdict, writeChecks}
 use Rattle.tm32.specs.Device.{Device, restart, sessionOf, start}
 use Rattle.tm32.specs.Fresh.{freshDevice, freshFlash, freshNvr, freshOptions, freshRam, freshSettings}
-use Rattle.tm32.specs.Map.{inGoRegion, inReadRegion, inUserRegion}
-use Rattle.tm32.specs.Numbers.{fromOneTo, longAt}
-use Rattle.tm32.specs.Options.{inEither, optionBytes, rdpOn}
-use Rattle.tm32.specs.Rates.{bitsPerSecond, rates}
-use Rattle.tm32.specs.Request.{exactly, readAs, requestIn, requestOf, writeIn}
+use Rattle.tm32_asks.specs.Map.{inGoRegion, inReadRegion, inUserRegion}
+use Rattle.tm32_asks.specs.Numbers.{fromOneTo, longAt}
+use Rattle.tm32_asks.specs.Options.{inEither, optionBytes, rdpOn}
+use Rattle.tm32_asks.specs.Rates.{bitsPerSecond, rates}
+use Rattle.tm32_asks.specs.Request.{exactly, readAs, requestIn, requestOf, writeIn}
 use Rattle.tm32.specs.Respond.{greet, isWaiting, refuse, replyTo, respond, serve, verdictOn}
 use Rattle.tm32.specs.Work.{erased, wiped, wipes, withOptions, work, written}
-use Rattle.tm32.specs.declared.Link.the-variants.{Spi, Uart}
+use Rattle.tm32_asks.specs.declared.Link.the-variants.{Spi, Uart}
 use Rattle.tm32.specs.declared.Session.{Session}
 use Rattle.tm32.specs.declared.State.the-variants.{Talking, Waiting}
 use Rattle.cases.specs.Cases.{fullDevice, fullFlash, onBench, oneByte, pcrop5, prepared, rdpWrp7, wrp7}

@@ -17,10 +17,10 @@ use mathlib.Core.Bool.{Bool, true}
 use mathlib.Core.List.{List, [], _++_}
 use mathlib.Core.Path.{_≡_, sym, ap, _∙_}
 use Rattle.tm32.specs.After.{callChecks, replyRoom}
-use Rattle.tm32.specs.Checks.{verdict}
+use Rattle.tm32_asks.specs.Checks.{verdict}
 use Rattle.tm32.specs.Device.{Device}
 use Rattle.tm32.specs.Fresh.{freshDevice, freshSettings}
-use Rattle.tm32.specs.Options.{ProtectAll, optionBytes}
+use Rattle.tm32_asks.specs.Options.{ProtectAll, optionBytes}
 use Rattle.tm32.specs.Run.{run}
 use Rattle.tm32.specs.declared.Settings.{Settings}
 use Rattle.tape.specs.Play.{playTape}

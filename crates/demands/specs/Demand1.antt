@@ -15,18 +15,18 @@ use mathlib.Core.Path.{_≡_, refl, _∙_}
 use lib.ListN.{length}
 use Rattle.frame.specs.Frame.{dataOf, frame}
 use Rattle.tm32.specs.After.{after, noReply, replied, tell}
-use Rattle.tm32.specs.Checks.{checksOf, numbersOf}
-use Rattle.tm32.specs.Device.{Device, crcStart}
-use Rattle.tm32.specs.Options.{optionBytes}
-use Rattle.tm32.specs.Request.{requestIn}
+use Rattle.tm32_asks.specs.Checks.{checksOf, numbersOf}
+use Rattle.tm32.specs.Device.{Device}
+use Rattle.tm32_asks.specs.Options.{optionBytes}
+use Rattle.tm32_asks.specs.Request.{crcStart, requestIn}
 use Rattle.tm32.specs.Respond.{refuse, replyTo, respond}
 use Rattle.tm32.specs.Work.{compared, work}
 use Rattle.tm32.specs.declared.Answer.the-variants.{Refused}
-use Rattle.tm32.specs.declared.Link.{Link}
-use Rattle.tm32.specs.declared.Request.{Request}
+use Rattle.tm32_asks.specs.declared.Link.{Link}
+use Rattle.tm32_asks.specs.declared.Request.{Request}
 use Rattle.tm32.specs.declared.Settings.{Settings}
 use Rattle.tm32.proofs.Answers.{without-reply}
-use Rattle.tm32.proofs.Verdicts.{of-numbers}
+use Rattle.tm32_asks.proofs.Verdicts.{of-numbers}
 use Rattle.demands.specs.Demand1.Meanings.{Because, follows, order}
 use Rattle.demands.specs.Demand1.NumbersMean.{number-means}
 use Rattle.demands.specs.Demand1.Reasons.{Reason, differs, failed, noHello}

@@ -21,16 +21,17 @@ use mathlib.Core.Path.{_≡_, refl}
 use lib.ListN.{length, replicate}
 use Rattle.frame.specs.Frame.{dataOf, frame}
 use Rattle.tm32.specs.After.{callChecks, replied, tell}
-use Rattle.tm32.specs.Checks.{noneFails}
-use Rattle.tm32.specs.Device.{Device, Memory, crcStart}
-use Rattle.tm32.specs.Map.{blank, flashLength, inFlash, inReadRegion}
+use Rattle.tm32_asks.specs.Checks.{noneFails}
+use Rattle.tm32.specs.Device.{Device, Memory}
+use Rattle.tm32_asks.specs.Map.{blank, flashLength, inFlash, inReadRegion}
 use Rattle.tm32.specs.OptionMessages.{isTalking}
-use Rattle.tm32.specs.Options.{optionBytes, underWrp}
-use Rattle.tm32.specs.Request.{requestIn}
+use Rattle.tm32_asks.specs.Options.{optionBytes, underWrp}
+use Rattle.tm32_asks.specs.Request.{crcStart, requestIn}
 use Rattle.tm32.specs.Respond.{respond}
-use Rattle.tm32.specs.Results.{workDone}
-use Rattle.tm32.specs.declared.Request.the-variants.{WriteOptions}
+use Rattle.tm32_asks.specs.Results.{workDone}
+use Rattle.tm32_asks.specs.declared.Request.the-variants.{WriteOptions}
 use Rattle.tm32.specs.declared.Settings.{Settings}
+use Rattle.tm32.proofs.Passed.{lent}
 use Rattle.demands.specs.Demand2.Named.{byteAt, named, pageOf, wiping}
 use Rattle.demands.specs.Demand2.Replies.{Reply, tellsData}
 use Rattle.demands.specs.Demand2.ReplyData.{bare-way, only-three}
@@ -38,7 +39,7 @@ use Rattle.demands.specs.Demand2.ReplyResults.{other-result, reply-so}
 use Rattle.demands.specs.Demand2.WipeBlanks.{wiping-asks, work-blank, work-unwiped}
 use Rattle.demands.specs.Demand2.WorkStays.{protected-unnamed, told-stays}
 use Rattle.demands.specs.Messages.FirstFailing.{call-passes}
-use Rattle.demands.specs.Messages.Ways.{asked, heard-so, lent, memory-after, reply-told}
+use Rattle.demands.specs.Messages.Ways.{asked, heard-so, memory-after, reply-told}
 
 -- ---- the memory
 

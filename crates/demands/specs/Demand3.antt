@@ -13,7 +13,7 @@ use Rattle.shape.specs.MoreRights.{more-rights as of-any}
 use Rattle.shape.specs.Shape.{Step, others}
 use Rattle.tm32.specs.After.{Told}
 use Rattle.tm32.specs.Device.{Device}
-use Rattle.tm32.specs.Options.{ProtectAll, optionBytes}
+use Rattle.tm32_asks.specs.Options.{ProtectAll, optionBytes}
 use Rattle.tm32.specs.Run.{Event, run}
 use Rattle.tm32.specs.declared.Settings.{Settings}
 use Rattle.demands.specs.Demand3.Grows.{grows}

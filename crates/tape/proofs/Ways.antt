@@ -11,7 +11,7 @@ use lib.ListN.{length, drop, length-drop}
 use Rattle.tm32.specs.After.{Told, noReply, replied, replyRoom, tell}
 use Rattle.tm32.specs.Device.{Device}
 use Rattle.tm32.specs.declared.Settings.{Settings}
-use Rattle.tm32.proofs.Accepted.{of-both}
+use Rattle.tm32_asks.proofs.Accepted.{of-both}
 use Rattle.tape.specs.Play.{Playing, behind, closing, playTape, recordRoom, replyKind, stopped}
 use Rattle.tape.specs.Records.{bodyIn, headLength, recordIn, recordOf}
 use Rattle.tape.specs.Script.{cut, cutShort, judged, messageKind, mostBody, nextIn, nextOf}

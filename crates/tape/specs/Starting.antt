@@ -3,7 +3,7 @@ use Prim.Native.Nat.{ℕ}
 use mathlib.Core.Bool.{cond}
 use lib.Dec.{eqb}
 use Rattle.tm32.specs.After.{callChecks, replyRoom}
-use Rattle.tm32.specs.Checks.{verdict}
+use Rattle.tm32_asks.specs.Checks.{verdict}
 use Rattle.tm32.specs.Device.{Memory, withMemory}
 use Rattle.tm32.specs.Fresh.{freshDevice}
 use Rattle.tape.specs.declared.Begun.{Begun}

@@ -9,14 +9,15 @@ use lib.ListN.{length}
 use borrow.Author.Tests.{eq-eqb, ne-eqb}
 use Rattle.frame.specs.Frame.{frame, laid}
 use Rattle.tm32.specs.After.{after, callChecks, lay, noReply, replied, tell, telling}
-use Rattle.tm32.specs.Checks.{verdict}
-use Rattle.tm32.specs.Device.{Device, crcStart, deviceOf, memoryOf}
+use Rattle.tm32_asks.specs.Checks.{verdict}
+use Rattle.tm32.specs.Device.{Device, deviceOf, memoryOf}
+use Rattle.tm32_asks.specs.Request.{crcStart}
 use Rattle.tm32.specs.Promises.{Laid, layAnswer, leaves, turnOf}
 use Rattle.tm32.specs.Respond.{Answered, answered, refuse, replyTo, respond, serve, verdictOn}
-use Rattle.tm32.specs.Results.{workDone}
+use Rattle.tm32_asks.specs.Results.{workDone}
 use Rattle.tm32.specs.Work.{work, worked}
 use Rattle.tm32.specs.declared.Answer.the-variants.{Refused, Reply}
-use Rattle.tm32.specs.declared.Request.{Request}
+use Rattle.tm32_asks.specs.declared.Request.{Request}
 use Rattle.tm32.specs.declared.Session.{Session}
 use Rattle.tm32.specs.declared.Settings.{Settings}
 use Rattle.tm32.specs.declared.Turn.{Turn}

@@ -6,7 +6,7 @@ use native.Mathlib.Omega.{arith}
 use borrow.Author.Tests.{le-leb, lt-leb}
 use Rattle.memory.proofs.Laws.{in-region, region-holds}
 use Rattle.memory.specs.Ranges.{within}
-use Rattle.tm32.specs.Map.{inFlash, inFlashOrRam, inNvr, inRam, inReadRegion, inUserNvr, inUserRegion}
+use Rattle.tm32_asks.specs.Map.{inFlash, inFlashOrRam, inNvr, inRam, inReadRegion, inUserNvr, inUserRegion}
 
 -- a range in a region lies in a memory of the region's length
 pub held : {size long : ℕ} (start address count : ℕ) → long ≡ size → within start size address count ≡ true → within start long address count ≡ true

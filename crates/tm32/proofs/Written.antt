@@ -8,10 +8,10 @@ use lib.ListN.{length, length-replicate, length-take, drop, replicate}
 use Rattle.memory.specs.Stores.{Change, change, part, replaced, replacing}
 use Rattle.memory.proofs.Laws.{length-part, length-replaced, stored}
 use Rattle.tm32.specs.Device.{Memory, bytesAt}
-use Rattle.tm32.specs.Map.{blank, flashLength, inFlash, inRam, nvrLength, optionsLength, pageCount, pageSize}
-use Rattle.tm32.specs.Options.{optionBytes}
+use Rattle.tm32_asks.specs.Map.{blank, flashLength, inFlash, inRam, nvrLength, optionsLength, pageCount, pageSize}
+use Rattle.tm32_asks.specs.Options.{optionBytes}
 use Rattle.tm32.specs.Work.{erased, wiped, wipes}
-use Rattle.tm32.proofs.Accepted.{of-both}
+use Rattle.tm32_asks.proofs.Accepted.{of-both}
 
 -- bytes that fit stand in the memory after the store
 pub stores : (memory : List ℕ) (place : ℕ) (bytes : List ℕ) → place + length bytes ≤ length memory

@@ -5,10 +5,10 @@ use mathlib.Core.List.{List, [], _∷_}
 use lib.Dec.{eqb, ltb}
 use lib.ListN.{length}
 use Rattle.frame.specs.Frame.{laid, overhead}
-use Rattle.tm32.specs.Checks.{Check, check, mostBytes, verdict}
+use Rattle.tm32_asks.specs.Checks.{Check, check, mostBytes, verdict}
 use Rattle.tm32.specs.Device.{Device}
-use Rattle.tm32.specs.Map.{flashLength, nvrLength, ramLength}
-use Rattle.tm32.specs.Rates.{isRate}
+use Rattle.tm32_asks.specs.Map.{flashLength, nvrLength, ramLength}
+use Rattle.tm32_asks.specs.Rates.{isRate}
 use Rattle.tm32.specs.Respond.{respond, Answered}
 use Rattle.tm32.specs.declared.Answer.{Answer}
 use Rattle.tm32.specs.declared.Answer.the-variants.{Reply, Refused}

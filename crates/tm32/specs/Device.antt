@@ -3,15 +3,11 @@ use Prim.Native.Nat.{ℕ, _-_}
 use mathlib.Core.Bool.{cond}
 use mathlib.Core.List.{List}
 use Rattle.memory.specs.Stores.{part}
-use Rattle.tm32.specs.Map.{flashStart, ramStart, nvrStart, inFlash, inRam}
-use Rattle.tm32.specs.declared.Link.{Link}
+use Rattle.tm32_asks.specs.Map.{flashStart, ramStart, nvrStart, inFlash, inRam}
+use Rattle.tm32_asks.specs.declared.Link.{Link}
 use Rattle.tm32.specs.declared.Session.{Session}
 use Rattle.tm32.specs.declared.State.{State}
 use Rattle.tm32.specs.declared.State.the-variants.{Waiting}
-
--- What a CRC of this chip starts from, in frames and in Memory CRC.
-abbrev pub crcStart : ℕ
-crcStart = 0
 
 -- A session, put together. No other definition does that.
 abbrev pub sessionOf : State → Link → ℕ → Session

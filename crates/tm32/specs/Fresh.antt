@@ -5,9 +5,9 @@ use lib.ListN.{replicate}
 use Rattle.frame.specs.Frame.{word}
 use Rattle.memory.specs.Stores.{replaced}
 use Rattle.tm32.specs.Device.{Device, deviceOf, memoryOf, start}
-use Rattle.tm32.specs.Map.{blank, flashLength, nvrLength, nvrStart, optionsStart, ramLength}
+use Rattle.tm32_asks.specs.Map.{blank, flashLength, nvrLength, nvrStart, optionsStart, ramLength}
 use Rattle.tm32.specs.Work.{uart1, uart2, uart3, spi1, spi2, i2c1, i2c2}
-use Rattle.tm32.specs.declared.Link.the-variants.{Uart}
+use Rattle.tm32_asks.specs.declared.Link.the-variants.{Uart}
 use Rattle.tm32.specs.declared.Settings.{Settings}
 
 -- The option bytes, halfword by halfword: read protection off, and four ranges that start above their end and so protect nothing.

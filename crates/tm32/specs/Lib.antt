@@ -1,15 +1,6 @@
--- The TM32G07x as document 01 lays it down: short definitions that run, in the order in which to read them. What a reader must believe stands here; what follows from it stands in `demands`.
--- How to read them: `x ∷ xs` is a list with `x` first, `++` joins two lists, `getD xs i 0` is the entry at place `i` (counted from 0) or 0 where there is none, `take` and `drop` keep
--- and leave out so many entries; `cond test a b` is `a` where the test holds and `b` where it does not; `eqb`, `leb` and `ltb` test for =, ≤ and <; `-` stops at 0; `/` and `%` are
--- quotient and remainder. Memory, messages and replies are lists of bytes.
-pub mod Results
-pub mod Map
+-- The TM32G07x as document 01 lays it down, second half: what is done and answered. Short definitions that run, in the order in which to read them, behind those of `tm32_asks`, whose first lines tell how to read
+-- them. What a reader must believe stands there and here; what follows from it stands in `demands`.
 pub mod Device
-pub mod Numbers
-pub mod Rates
-pub mod Request
-pub mod Options
-pub mod Checks
 pub mod Work
 pub mod Respond
 pub mod After

@@ -4,12 +4,12 @@ use mathlib.Core.Bool.{Bool, true, false, _&&_}
 use mathlib.Core.List.{List}
 use lib.Dec.{eqb, ltb}
 use Rattle.tm32.specs.After.{callChecks}
-use Rattle.tm32.specs.Checks.{isLength, verdict}
+use Rattle.tm32_asks.specs.Checks.{isLength, verdict}
 use Rattle.tm32.specs.Device.{Device}
-use Rattle.tm32.specs.Map.{inNvr, optionsLength, optionsStart}
-use Rattle.tm32.specs.Request.{requestIn}
-use Rattle.tm32.specs.declared.Request.{Request}
-use Rattle.tm32.specs.declared.Request.the-variants.{Pps, Get, Read, Write, MemoryCrc, Erase, Go, WriteOptions, ReadOptions, HeartBeat, Misshapen}
+use Rattle.tm32_asks.specs.Map.{inNvr, optionsLength, optionsStart}
+use Rattle.tm32_asks.specs.Request.{requestIn}
+use Rattle.tm32_asks.specs.declared.Request.{Request}
+use Rattle.tm32_asks.specs.declared.Request.the-variants.{Pps, Get, Read, Write, MemoryCrc, Erase, Go, WriteOptions, ReadOptions, HeartBeat, Misshapen}
 use Rattle.tm32.specs.declared.State.{State}
 use Rattle.tm32.specs.declared.State.the-variants.{Waiting, Talking, Gone}
 

@@ -6,15 +6,15 @@ use mathlib.Core.Path.{_≡_}
 use lib.ListN.{length}
 use Rattle.frame.specs.Frame.{laid}
 use Rattle.tm32.specs.After.{After, afterOf, lay, replied, replyRoom}
-use Rattle.tm32.specs.Checks.{checksOf, noneFails}
+use Rattle.tm32_asks.specs.Checks.{checksOf, noneFails}
 use Rattle.tm32.specs.Device.{Memory, deviceOf, memoryOf}
-use Rattle.tm32.specs.Map.{flashLength, nvrLength, ramLength}
+use Rattle.tm32_asks.specs.Map.{flashLength, nvrLength, ramLength}
 use Rattle.tm32.specs.Respond.{Answered}
 use Rattle.tm32.specs.Work.{work}
 use Rattle.tm32.specs.declared.Answer.{Answer}
 use Rattle.tm32.specs.declared.Answer.the-variants.{Reply}
-use Rattle.tm32.specs.declared.Link.{Link}
-use Rattle.tm32.specs.declared.Request.{Request}
+use Rattle.tm32_asks.specs.declared.Link.{Link}
+use Rattle.tm32_asks.specs.declared.Request.{Request}
 use Rattle.tm32.specs.declared.Session.{Session}
 use Rattle.tm32.specs.declared.Settings.{Settings}
 use Rattle.tm32.specs.declared.Turn.{Turn}

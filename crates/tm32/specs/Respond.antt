@@ -6,13 +6,13 @@ use lib.Dec.{eqb}
 use lib.ListN.{length}
 use Rattle.frame.specs.Frame.{dataOf, frame}
 use Rattle.memory.specs.Stores.{same}
-use Rattle.tm32.specs.Checks.{checksOf, verdict}
-use Rattle.tm32.specs.Device.{Device, crcStart, inState, withSession}
-use Rattle.tm32.specs.Options.{optionBytes}
-use Rattle.tm32.specs.Request.{requestIn}
-use Rattle.tm32.specs.Results.{noHandshake, workDone}
+use Rattle.tm32_asks.specs.Checks.{checksOf, verdict}
+use Rattle.tm32.specs.Device.{Device, inState, withSession}
+use Rattle.tm32_asks.specs.Options.{optionBytes}
+use Rattle.tm32_asks.specs.Request.{crcStart, requestIn}
+use Rattle.tm32_asks.specs.Results.{noHandshake, workDone}
 use Rattle.tm32.specs.Work.{Worked, work}
-use Rattle.tm32.specs.declared.Request.{Request}
+use Rattle.tm32_asks.specs.declared.Request.{Request}
 use Rattle.tm32.specs.declared.Settings.{Settings}
 use Rattle.tm32.specs.declared.State.{State}
 use Rattle.tm32.specs.declared.State.the-variants.{Waiting, Talking, Gone}

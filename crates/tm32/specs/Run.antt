@@ -3,7 +3,7 @@ use Prim.Native.Nat.{ℕ}
 use mathlib.Core.List.{List, [], _∷_}
 use Rattle.tm32.specs.After.{Told, Telling, tell}
 use Rattle.tm32.specs.Device.{Device, restart, withSession}
-use Rattle.tm32.specs.declared.Link.{Link}
+use Rattle.tm32_asks.specs.declared.Link.{Link}
 use Rattle.tm32.specs.declared.Settings.{Settings}
 
 -- What can happen to a device: a message with so much room lent for its reply, or a restart on a link.

@@ -6,13 +6,14 @@ use lib.Dec.{eqb}
 use lib.ListN.{length, drop, replicate}
 use Rattle.frame.specs.Crc.{crc}
 use Rattle.memory.specs.Stores.{kept, replaced, same}
-use Rattle.tm32.specs.Device.{Device, Memory, atRate, bytesAt, crcStart, inState, memoryOf, withFlash, withMemory, withNvr, withRam, withSession}
-use Rattle.tm32.specs.Map.{blank, flashStart, inFlash, inRam, nvrStart, optionsStart, pageCount, pageSize, ramStart}
-use Rattle.tm32.specs.Numbers.{long}
-use Rattle.tm32.specs.Options.{optionBytes, rdpOn}
-use Rattle.tm32.specs.Results.{readbackDiffers, workDone, wrongShape, wrongCrc}
-use Rattle.tm32.specs.declared.Request.{Request}
-use Rattle.tm32.specs.declared.Request.the-variants.{Pps, Get, Read, Write, MemoryCrc, Erase, Go, WriteOptions, ReadOptions, HeartBeat, Misshapen}
+use Rattle.tm32.specs.Device.{Device, Memory, atRate, bytesAt, inState, memoryOf, withFlash, withMemory, withNvr, withRam, withSession}
+use Rattle.tm32_asks.specs.Request.{crcStart}
+use Rattle.tm32_asks.specs.Map.{blank, flashStart, inFlash, inRam, nvrStart, optionsStart, pageCount, pageSize, ramStart}
+use Rattle.tm32_asks.specs.Numbers.{long}
+use Rattle.tm32_asks.specs.Options.{optionBytes, rdpOn}
+use Rattle.tm32_asks.specs.Results.{readbackDiffers, workDone, wrongShape, wrongCrc}
+use Rattle.tm32_asks.specs.declared.Request.{Request}
+use Rattle.tm32_asks.specs.declared.Request.the-variants.{Pps, Get, Read, Write, MemoryCrc, Erase, Go, WriteOptions, ReadOptions, HeartBeat, Misshapen}
 use Rattle.tm32.specs.declared.Settings.{Settings}
 use Rattle.tm32.specs.declared.State.the-variants.{Gone}
 

@@ -1,42 +1,46 @@
 // The device: one message, with the memory and the reply buffer that are lent for it.
 use crate::Answer;
-use crate::Request;
 use crate::Session;
 use crate::Settings;
 use crate::State;
 use crate::Turn;
-use crate::checks;
 use crate::erase;
 use crate::get;
 use crate::go;
 use crate::heart_beat;
-use crate::map::FLASH_LENGTH;
-use crate::map::NVR_LENGTH;
-use crate::map::RAM_LENGTH;
 use crate::memory_crc;
 use crate::pps;
 use crate::read;
 use crate::read_options;
 use crate::replies::reply;
 use crate::replies::reply_with;
-use crate::requests::bytes_to_write;
-use crate::requests::request_in;
-use crate::results::NO_HANDSHAKE;
-use crate::results::WORK_DONE;
 use crate::write;
 use crate::write_options;
+use tm32_asks::FLASH_LENGTH;
+use tm32_asks::NVR_LENGTH;
+use tm32_asks::RAM_LENGTH;
+use tm32_asks::Request;
+use tm32_asks::bytes_to_write;
+use tm32_asks::request_in;
+use tm32_asks::results::NO_HANDSHAKE;
+use tm32_asks::results::WORK_DONE;
 ghost use Prim.Native.Nat.{_≤_};
-ghost use mathlib.Core.List.{[]};
+ghost use mathlib.Core.Bool.{not};
+ghost use mathlib.Core.List.{[], _∷_};
 ghost use mathlib.Core.Path.{_≡_};
+ghost use lib.Dec.{eqb, ltb};
 ghost use lib.ListN.{length};
 ghost use Rattle.frame.specs.Frame.{dataOf, frame};
 ghost use Rattle.memory.specs.Stores.{same};
 ghost use Rattle.tm32.specs.After.{after, replyRoom};
-ghost use Rattle.tm32.specs.Device.{crcStart, deviceOf, inState, memoryOf};
+ghost use Rattle.tm32.specs.Device.{deviceOf, inState, memoryOf};
 ghost use Rattle.tm32.specs.Promises.{Changed, GoesOn, Laid, Lent, LetThrough, layAnswer, leaves, turnOf};
-ghost use Rattle.tm32.specs.Request.{requestIn};
+ghost use Rattle.tm32_asks.specs.Checks.{check, verdict};
+ghost use Rattle.tm32_asks.specs.Map.{flashLength, nvrLength, ramLength};
+ghost use Rattle.tm32_asks.specs.Rates.{isRate};
+ghost use Rattle.tm32_asks.specs.Request.{crcStart, requestIn};
 ghost use Rattle.tm32.specs.Respond.{hello, helloBack, isGone, isWaiting, replyTo, respond as respondIs, serve as serveIs, verdictOn};
-ghost use Rattle.tm32.specs.Results.{workDone};
+ghost use Rattle.tm32_asks.specs.Results.{workDone};
 ghost use Rattle.tm32.specs.Work.{work as workIs};
 
 // The byte that a host shakes hands with, and the byte that answers it.
@@ -63,23 +67,35 @@ impl Session {
             ≡ after settings (deviceOf self (memoryOf (now (flash .entry)) (now (ram .entry)) (now (nvr .entry))))
             (now (message .entry)) (now (buffer .entry)) ⌝ }
     {
-        if flash.len() != FLASH_LENGTH as usize {
-            return refused(self, 1);
-        }
-        if ram.len() != RAM_LENGTH as usize {
-            return refused(self, 2);
-        }
-        if nvr.len() != NVR_LENGTH as usize {
-            return refused(self, 3);
-        }
-        if buffer.len() < REPLY_ROOM {
-            return refused(self, 4);
-        }
-        if !checks::is_rate(self.rate) {
-            return refused(self, 5);
+        let number = refusal(flash.len(), ram.len(), nvr.len(), buffer.len(), self.rate);
+        if number != 0 {
+            return refused(self, number);
         }
         respond(self, settings, message, flash, ram, nvr, buffer)
     }
+}
+
+// What is tested of a call before the message is looked at: the number, 1 to 5, of the first test that fails, or 0.
+fn refusal(flash: usize, ram: usize, nvr: usize, room: usize, rate: u8) -> u8
+    ensures { λ r. ⌜ r ≡ verdict 0 (check (not (eqb flash flashLength)) 1 ∷ check (not (eqb ram ramLength)) 2 ∷ check (not (eqb nvr nvrLength)) 3
+        ∷ check (ltb room replyRoom) 4 ∷ check (not (isRate rate)) 5 ∷ []) ⌝ }
+{
+    if flash != FLASH_LENGTH as usize {
+        return 1;
+    }
+    if ram != RAM_LENGTH as usize {
+        return 2;
+    }
+    if nvr != NVR_LENGTH as usize {
+        return 3;
+    }
+    if room < REPLY_ROOM {
+        return 4;
+    }
+    if !tm32_asks::is_rate(rate) {
+        return 5;
+    }
+    0
 }
 
 // A call of which nothing comes but a number.
@@ -195,7 +211,7 @@ fn serve(
 {
     let request = request_in(message);
     let link = session.link;
-    let number = checks::verdict(link, read_options::work(nvr), request);
+    let number = tm32_asks::verdict(link, read_options::work(nvr), request);
     if number != WORK_DONE {
         return reply(session, number, buffer);
     }

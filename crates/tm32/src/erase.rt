@@ -1,9 +1,9 @@
 // Erase: so many pages from the first on become blank.
-use crate::map::PAGE_SIZE;
+use tm32_asks::PAGE_SIZE;
 ghost use mathlib.Core.Path.{_≡_};
 ghost use Prim.Native.Nat.{_+_, _≤_};
 ghost use lib.ListN.{length};
-ghost use Rattle.tm32.specs.Map.{flashLength, pageCount};
+ghost use Rattle.tm32_asks.specs.Map.{flashLength, pageCount};
 ghost use Rattle.tm32.specs.Work.{erased};
 
 // An erased byte.

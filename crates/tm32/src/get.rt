@@ -1,7 +1,7 @@
 // Get tells what chip this is.
 use crate::Settings;
 ghost use mathlib.Core.Path.{_≡_};
-ghost use Rattle.tm32.specs.Numbers.{long as longIs};
+ghost use Rattle.tm32_asks.specs.Numbers.{long as longIs};
 ghost use Rattle.tm32.specs.Work.{information};
 
 // The command word: bits 0 to 8.

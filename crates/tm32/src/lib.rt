@@ -1,29 +1,25 @@
 // The stand-in for the TM32G07x. Document 01 is what it does; `specs/` says it again as definitions that run.
 
-mod checks;
 mod device;
 mod erase;
 mod get;
 mod go;
 mod heart_beat;
-mod map;
 mod memory_crc;
-mod options;
 mod pps;
 mod read;
 mod read_options;
 mod replies;
-mod requests;
-mod results;
 mod sessions;
 mod write;
 mod write_options;
 
 // How long the memory is that is lent for a message, and the reply buffer at least.
 pub use device::REPLY_ROOM;
-pub use map::FLASH_LENGTH;
-pub use map::NVR_LENGTH;
-pub use map::RAM_LENGTH;
+pub use tm32_asks::FLASH_LENGTH;
+use tm32_asks::Link;
+pub use tm32_asks::NVR_LENGTH;
+pub use tm32_asks::RAM_LENGTH;
 
 // Where a session stands.
 pub enum State {
@@ -33,13 +29,6 @@ pub enum State {
     Talking,
     // The loader has jumped to the program at this address, and answers nothing.
     Gone { address: u32 },
-}
-
-// What the host is connected by.
-pub enum Link {
-    Uart,
-    Spi,
-    I2c,
 }
 
 // A session, a value that each message takes and gives back. The rate is the code of PPS, and not bits per second.
@@ -56,23 +45,6 @@ pub struct Settings {
     pub package: u8,
     pub model: u8,
     pub links: u32,
-}
-
-// What a Talking device reads in a message: one of the ten commands with its fields, or none. The bytes of a write and of the
-// option bytes stay in the message, beside this.
-pub enum Request {
-    Pps { code: u8 },
-    Get,
-    Read { address: u32, count: u32 },
-    Write { flag: u8, address: u32, count: u32 },
-    MemoryCrc { address: u32, count: u32, crc: u16 },
-    Erase { first: u32, count: u32 },
-    Go { address: u32 },
-    WriteOptions,
-    ReadOptions,
-    HeartBeat,
-    // None of the ten: what 01 calls a failure of shape.
-    Misshapen,
 }
 
 // What comes of a message.

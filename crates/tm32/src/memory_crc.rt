@@ -1,13 +1,13 @@
 // Memory CRC compares: the frame's own CRC over a range, against the one that was sent.
 use crate::read;
-use crate::replies::CRC_START;
-use crate::results::WORK_DONE;
-use crate::results::WRONG_CRC;
+use tm32_asks::CRC_START;
+use tm32_asks::results::WORK_DONE;
+use tm32_asks::results::WRONG_CRC;
 ghost use mathlib.Core.Bool.{true};
 ghost use mathlib.Core.Path.{_≡_};
 ghost use lib.ListN.{length};
 ghost use Rattle.tm32.specs.Device.{memoryOf};
-ghost use Rattle.tm32.specs.Map.{flashLength, inUserRegion, nvrLength, ramLength};
+ghost use Rattle.tm32_asks.specs.Map.{flashLength, inUserRegion, nvrLength, ramLength};
 ghost use Rattle.tm32.specs.Work.{compared};
 
 pub(crate) fn work<'a>(

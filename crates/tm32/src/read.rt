@@ -1,9 +1,9 @@
 // Read: the bytes that a range names, lent on as a part of the memory that holds them.
-use crate::map::FLASH_START;
-use crate::map::NVR_START;
-use crate::map::RAM_START;
-use crate::map::in_flash;
-use crate::map::in_nvr;
+use tm32_asks::FLASH_START;
+use tm32_asks::NVR_START;
+use tm32_asks::RAM_START;
+use tm32_asks::in_flash;
+use tm32_asks::in_nvr;
 ghost use mathlib.Core.Bool.{cond, true};
 ghost use mathlib.Core.Path.{_≡_};
 ghost use Prim.Native.Nat.{_-_};
@@ -11,7 +11,7 @@ ghost use lib.ListN.{length};
 ghost use Rattle.memory.specs.Ranges.{within};
 ghost use Rattle.memory.specs.Stores.{part};
 ghost use Rattle.tm32.specs.Device.{bytesAt, memoryOf};
-ghost use Rattle.tm32.specs.Map.{flashLength, flashStart, inFlash, inFlashOrRam, inReadRegion, nvrLength, ramLength, ramStart};
+ghost use Rattle.tm32_asks.specs.Map.{flashLength, flashStart, inFlash, inFlashOrRam, inReadRegion, nvrLength, ramLength, ramStart};
 
 // The bytes of a range in flash, RAM or NVR.
 pub(crate) fn work<'a>(

@@ -3,17 +3,15 @@ use crate::Answer;
 use crate::Session;
 use crate::Turn;
 use frame::Written;
+use tm32_asks::CRC_START;
 ghost use mathlib.Core.List.{[]};
 ghost use Prim.Native.Nat.{_≤_};
 ghost use lib.ListN.{length};
 ghost use Rattle.frame.specs.Frame.{frame};
 ghost use Rattle.tm32.specs.After.{replyRoom};
-ghost use Rattle.tm32.specs.Checks.{mostBytes};
-ghost use Rattle.tm32.specs.Device.{crcStart};
+ghost use Rattle.tm32_asks.specs.Checks.{mostBytes};
+ghost use Rattle.tm32_asks.specs.Request.{crcStart};
 ghost use Rattle.tm32.specs.Promises.{Laid};
-
-// What a CRC of this chip starts from.
-pub(crate) const CRC_START: u16 = 0;
 
 // A reply with data.
 pub(crate) fn reply_with(session: Session, result: u8, payload: &[u8], buffer: &mut [u8]) -> Turn

@@ -1,10 +1,10 @@
 // The session: how it starts, and its rate.
-use crate::Link;
 use crate::Session;
 use crate::State;
+use tm32_asks::Link;
 ghost use mathlib.Core.Path.{_≡_};
 ghost use Rattle.tm32.specs.Device.{atRate, inState, restart as restartIs, sessionOf, start as startIs};
-ghost use Rattle.tm32.specs.Rates.{bitsPerSecond};
+ghost use Rattle.tm32_asks.specs.Rates.{bitsPerSecond};
 
 // The rate code of a start.
 const START_RATE: u8 = 0x0A;

@@ -1,22 +1,22 @@
 // Write: flash loses bits, RAM and NVR take the bytes as they are.
-use crate::map::FLASH_START;
-use crate::map::NVR_START;
-use crate::map::RAM_START;
-use crate::map::in_flash;
-use crate::map::in_ram;
-use crate::results::READBACK_DIFFERS;
-use crate::results::WORK_DONE;
 use memory::Programmed;
+use tm32_asks::FLASH_START;
+use tm32_asks::NVR_START;
+use tm32_asks::RAM_START;
+use tm32_asks::in_flash;
+use tm32_asks::in_ram;
+use tm32_asks::results::READBACK_DIFFERS;
+use tm32_asks::results::WORK_DONE;
 ghost use mathlib.Core.Bool.{cond, not, true, _&&_};
 ghost use mathlib.Core.Path.{_≡_};
 ghost use Prim.Native.Nat.{_+_, _≤_};
 ghost use lib.Dec.{eqb};
 ghost use lib.ListN.{length};
 ghost use Rattle.memory.specs.Stores.{kept, replaced, same};
-ghost use Rattle.tm32.specs.Checks.{mostBytes};
+ghost use Rattle.tm32_asks.specs.Checks.{mostBytes};
 ghost use Rattle.tm32.specs.Device.{memoryOf};
-ghost use Rattle.tm32.specs.Map.{flashLength, inUserRegion, nvrLength, ramLength};
-ghost use Rattle.tm32.specs.Results.{readbackDiffers, workDone};
+ghost use Rattle.tm32_asks.specs.Map.{flashLength, inUserRegion, nvrLength, ramLength};
+ghost use Rattle.tm32_asks.specs.Results.{readbackDiffers, workDone};
 ghost use Rattle.tm32.specs.Work.{readback, written};
 
 // Writes bytes, and gives the result. RAM and NVR always read back as they were sent.

@@ -1,15 +1,15 @@
 // Write options: first the wipe, then the bytes are stored.
 use crate::erase;
-use crate::map::OPTIONS_PLACE;
-use crate::map::PAGE_COUNT;
-use crate::options::rdp_on;
 use crate::read_options;
+use tm32_asks::OPTIONS_PLACE;
+use tm32_asks::PAGE_COUNT;
+use tm32_asks::rdp_on;
 ghost use mathlib.Core.Path.{_≡_};
 ghost use Prim.Native.Nat.{_-_};
 ghost use lib.ListN.{length};
 ghost use Rattle.memory.specs.Stores.{replaced};
-ghost use Rattle.tm32.specs.Map.{flashLength, nvrLength, nvrStart, optionsLength, optionsStart, pageCount};
-ghost use Rattle.tm32.specs.Options.{optionBytes};
+ghost use Rattle.tm32_asks.specs.Map.{flashLength, nvrLength, nvrStart, optionsLength, optionsStart, pageCount};
+ghost use Rattle.tm32_asks.specs.Options.{optionBytes};
 ghost use Rattle.tm32.specs.Work.{wiped, wipes as wipesIs};
 
 pub(crate) fn work(flash: &mut [u8], nvr: &mut [u8], options: &[u8])
@@ -25,8 +25,6 @@ pub(crate) fn work(flash: &mut [u8], nvr: &mut [u8], options: &[u8])
 
 // The wipe, page by page.
 fn wipe(old: &[u8], new: &[u8], flash: &mut [u8])
-    requires { ⌜ length (now old) ≡ optionsLength ⌝ }
-    requires { ⌜ length (now new) ≡ optionsLength ⌝ }
     requires { ⌜ length (now flash) ≡ flashLength ⌝ }
     ensures { λ _. ⌜ now (flash .exit) ≡ wiped (now (old .entry)) (now (new .entry)) pageCount (now (flash .entry)) ⌝ }
 {
@@ -41,8 +39,6 @@ fn wipe(old: &[u8], new: &[u8], flash: &mut [u8])
 
 // Whether new options over old ones wipe a page: where read protection goes from on to off, each page alike.
 fn wipes(old: &[u8], new: &[u8], page: u32) -> bool
-    requires { ⌜ length (now old) ≡ optionsLength ⌝ }
-    requires { ⌜ length (now new) ≡ optionsLength ⌝ }
     ensures { λ r. ⌜ r ≡ wipesIs (now (old .entry)) (now (new .entry)) page ⌝ }
 {
     if !rdp_on(old) {

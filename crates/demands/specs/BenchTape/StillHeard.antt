@@ -7,16 +7,16 @@ use mathlib.Core.Path.{_≡_, refl, sym, _∙_}
 use borrow.Author.Tests.{not-false}
 use Rattle.frame.specs.Frame.{dataOf}
 use Rattle.tm32.specs.After.{Telling, callChecks, tell}
-use Rattle.tm32.specs.Checks.{checks, noneFails}
+use Rattle.tm32_asks.specs.Checks.{checks, noneFails}
 use Rattle.tm32.specs.Device.{Device}
-use Rattle.tm32.specs.Rates.{isRate}
-use Rattle.tm32.specs.Request.{requestIn}
+use Rattle.tm32_asks.specs.Rates.{isRate}
+use Rattle.tm32_asks.specs.Request.{requestIn}
 use Rattle.tm32.specs.Respond.{Answered, greet, refuse, replyTo, respond}
 use Rattle.tm32.specs.Work.{work}
-use Rattle.tm32.specs.declared.Request.{Request}
-use Rattle.tm32.specs.declared.Request.the-variants.{Pps, Get, Read, Write, MemoryCrc, Erase, Go, WriteOptions, ReadOptions, HeartBeat, Misshapen}
+use Rattle.tm32_asks.specs.declared.Request.{Request}
+use Rattle.tm32_asks.specs.declared.Request.the-variants.{Pps, Get, Read, Write, MemoryCrc, Erase, Go, WriteOptions, ReadOptions, HeartBeat, Misshapen}
 use Rattle.tm32.specs.declared.Settings.{Settings}
-use Rattle.tm32.proofs.Accepted.{next}
+use Rattle.tm32_asks.proofs.Accepted.{next}
 use Rattle.demands.specs.Demand2.Besides.{lengths-stay}
 use Rattle.demands.specs.Messages.FirstFailing.{Called, called, heard, requestChecks, unheard}
 use Rattle.demands.specs.Messages.Ways.{Heard, greeted, heard-so, silent, turnedAway, unshaken, workedOn}

@@ -8,11 +8,11 @@ use lib.ListN.{length, length-replicate, replicate}
 use Rattle.frame.specs.Frame.{word}
 use Rattle.memory.proofs.Laws.{length-replaced}
 use Rattle.tm32.specs.After.{callChecks, replied, replyRoom, tell}
-use Rattle.tm32.specs.Checks.{verdict}
+use Rattle.tm32_asks.specs.Checks.{verdict}
 use Rattle.tm32.specs.Device.{Device}
 use Rattle.tm32.specs.Fresh.{freshDevice, freshFlash, freshNvr, freshOptions, freshRam}
-use Rattle.tm32.specs.Map.{blank, flashLength, nvrLength, nvrStart, optionsStart, ramLength}
-use Rattle.tm32.specs.Numbers.{fromOneTo}
+use Rattle.tm32_asks.specs.Map.{blank, flashLength, nvrLength, nvrStart, optionsStart, ramLength}
+use Rattle.tm32_asks.specs.Numbers.{fromOneTo}
 use Rattle.tm32.specs.Run.{run}
 use Rattle.tm32.specs.declared.Settings.{Settings}
 use Rattle.tape.specs.Play.{Playing, closing, recordRoom, replyKind}

@@ -9,12 +9,12 @@ use Rattle.frame.specs.Crc.{bitDone, bitsDone, byteDone, crc, polynomial, shift
 use Rattle.frame.specs.Frame.{covered, dataOf, frame, reading, word, wordAt}
 use Rattle.memory.specs.Stores.{part, replaced, same}
 use Rattle.tm32.specs.After.{callChecks, tell}
-use Rattle.tm32.specs.Checks.{checks, protections, verdict}
+use Rattle.tm32_asks.specs.Checks.{checks, protections, verdict}
 use Rattle.tm32.specs.Device.{Device}
 use Rattle.tm32.specs.Fresh.{freshDevice, freshFlash, freshNvr, freshOptions, freshRam, freshSettings}
-use Rattle.tm32.specs.Numbers.{fromOneTo}
-use Rattle.tm32.specs.Options.{optionBytes}
-use Rattle.tm32.specs.Request.{exactly, readAs, requestIn, requestOf}
+use Rattle.tm32_asks.specs.Numbers.{fromOneTo}
+use Rattle.tm32_asks.specs.Options.{optionBytes}
+use Rattle.tm32_asks.specs.Request.{exactly, readAs, requestIn, requestOf}
 use Rattle.tm32.specs.Respond.{greet, refuse, replyTo, respond, serve, verdictOn}
 use Rattle.tm32.specs.Work.{work}
 use Rattle.tm32.specs.declared.State.the-variants.{Waiting}

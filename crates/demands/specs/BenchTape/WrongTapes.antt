@@ -9,10 +9,10 @@ use lib.ListN.{getD, replicate}
 use Rattle.frame.specs.Frame.{laid, word, wordAt}
 use Rattle.memory.specs.Stores.{part, replaced, same}
 use Rattle.tm32.specs.After.{callChecks, tell}
-use Rattle.tm32.specs.Checks.{verdict}
+use Rattle.tm32_asks.specs.Checks.{verdict}
 use Rattle.tm32.specs.Device.{memoryOf}
 use Rattle.tm32.specs.Fresh.{freshDevice, freshFlash, freshNvr, freshOptions, freshRam, freshSettings}
-use Rattle.tm32.specs.Numbers.{fromOneTo}
+use Rattle.tm32_asks.specs.Numbers.{fromOneTo}
 use Rattle.tm32.specs.Respond.{respond}
 use Rattle.tape.specs.Blocks.{keeping, restOf}
 use Rattle.tape.specs.Play.{closing, onward, play, playTape, played}

@@ -7,13 +7,13 @@ use mathlib.Core.Path.{_≡_}
 use lib.Dec.{eqb, ltb}
 use Rattle.memory.specs.Pages.{pages, somePage}
 use Rattle.memory.specs.declared.PageRun.{PageRun}
-use Rattle.tm32.specs.Checks.{flashPages, isLength, isPageCount, isUart}
-use Rattle.tm32.specs.Map.{inGoRegion, inReadRegion, inUserRegion, pageCount}
-use Rattle.tm32.specs.Options.{rdpOn, underPcrop, underWrp}
-use Rattle.tm32.specs.Rates.{isRate}
-use Rattle.tm32.specs.declared.Link.{Link}
-use Rattle.tm32.specs.declared.Request.{Request}
-use Rattle.tm32.specs.declared.Request.the-variants.{Pps, Read, Write, MemoryCrc, Erase, Go, Misshapen}
+use Rattle.tm32_asks.specs.Checks.{flashPages, isLength, isPageCount, isUart}
+use Rattle.tm32_asks.specs.Map.{inGoRegion, inReadRegion, inUserRegion, pageCount}
+use Rattle.tm32_asks.specs.Options.{rdpOn, underPcrop, underWrp}
+use Rattle.tm32_asks.specs.Rates.{isRate}
+use Rattle.tm32_asks.specs.declared.Link.{Link}
+use Rattle.tm32_asks.specs.declared.Request.{Request}
+use Rattle.tm32_asks.specs.declared.Request.the-variants.{Pps, Read, Write, MemoryCrc, Erase, Go, Misshapen}
 
 -- The pages of the flash that a request looks at, where it looks at any, and those that it changes.
 pub data Looks : Request → PageRun → Type 0 where

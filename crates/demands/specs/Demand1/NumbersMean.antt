@@ -7,11 +7,11 @@ use borrow.Author.Tests.{not-true}
 use lib.Dec.{ltb}
 use Rattle.memory.specs.Pages.{pages}
 use Rattle.memory.specs.declared.PageRun.{PageRun}
-use Rattle.tm32.specs.Checks.{Check, checks, checksOf, protections, readChecks, writeChecks}
-use Rattle.tm32.specs.Options.{rdpOn}
-use Rattle.tm32.specs.declared.Link.{Link}
-use Rattle.tm32.specs.declared.Request.{Request}
-use Rattle.tm32.specs.declared.Request.the-variants.{Pps, Get, Read, Write, MemoryCrc, Erase, Go, WriteOptions, ReadOptions, HeartBeat, Misshapen}
+use Rattle.tm32_asks.specs.Checks.{Check, checks, checksOf, protections, readChecks, writeChecks}
+use Rattle.tm32_asks.specs.Options.{rdpOn}
+use Rattle.tm32_asks.specs.declared.Link.{Link}
+use Rattle.tm32_asks.specs.declared.Request.{Request}
+use Rattle.tm32_asks.specs.declared.Request.the-variants.{Pps, Get, Read, Write, MemoryCrc, Erase, Go, WriteOptions, ReadOptions, HeartBeat, Misshapen}
 use Rattle.demands.specs.Demand1.Meanings.{Because, Looks, atCrc, atErase, atRead, byErase, byWrite, crcAddress, crcLength, eraseAddress, goAddress, noPageCount, noRate, noUart, pcrop, rdp, readAddress, readLength, shape, writeAddress, writeLength, wrp}
 use Rattle.demands.specs.Messages.FirstFailing.{FirstFailing}
 

@@ -5,12 +5,12 @@ use mathlib.Core.List.{List}
 use mathlib.Core.Path.{_≡_}
 use lib.Dec.{eqb}
 use Rattle.frame.specs.Crc.{crc}
-use Rattle.tm32.specs.Checks.{noneFails}
-use Rattle.tm32.specs.Device.{Device, bytesAt, crcStart}
+use Rattle.tm32_asks.specs.Checks.{noneFails}
+use Rattle.tm32.specs.Device.{Device, bytesAt}
 use Rattle.tm32.specs.OptionMessages.{isTalking}
-use Rattle.tm32.specs.Request.{requestIn}
+use Rattle.tm32_asks.specs.Request.{crcStart, requestIn}
 use Rattle.tm32.specs.Respond.{isWaiting}
-use Rattle.tm32.specs.declared.Request.the-variants.{MemoryCrc}
+use Rattle.tm32_asks.specs.declared.Request.the-variants.{MemoryCrc}
 use Rattle.demands.specs.Messages.FirstFailing.{FirstFailing, requestChecks}
 use Rattle.demands.specs.Messages.Ways.{NeitherEmptyNorHello}
 

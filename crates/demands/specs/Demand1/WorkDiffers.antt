@@ -7,13 +7,13 @@ use lib.Dec.{eqb}
 use lib.ListN.{drop}
 use Rattle.frame.specs.Crc.{crc}
 use Rattle.frame.specs.Frame.{dataOf, frame}
-use Rattle.tm32.specs.Checks.{checks, noneFails}
-use Rattle.tm32.specs.Device.{Device, bytesAt, crcStart}
-use Rattle.tm32.specs.Request.{requestIn}
+use Rattle.tm32_asks.specs.Checks.{checks, noneFails}
+use Rattle.tm32.specs.Device.{Device, bytesAt}
+use Rattle.tm32_asks.specs.Request.{crcStart, requestIn}
 use Rattle.tm32.specs.Respond.{Answered, greet, helloBack, refuse, replyTo}
 use Rattle.tm32.specs.Work.{compared, work}
-use Rattle.tm32.specs.declared.Request.{Request}
-use Rattle.tm32.specs.declared.Request.the-variants.{Pps, Get, Read, Write, MemoryCrc, Erase, Go, WriteOptions, ReadOptions, HeartBeat, Misshapen}
+use Rattle.tm32_asks.specs.declared.Request.{Request}
+use Rattle.tm32_asks.specs.declared.Request.the-variants.{Pps, Get, Read, Write, MemoryCrc, Erase, Go, WriteOptions, ReadOptions, HeartBeat, Misshapen}
 use Rattle.tm32.specs.declared.Settings.{Settings}
 use Rattle.demands.specs.Demand1.Reasons.{Reason, differs, failed, noHello}
 use Rattle.demands.specs.Demand1.Refusals.{isOneOf, isRefusal, refusals}

@@ -9,16 +9,16 @@ use lib.ListN.{drop, length}
 use Rattle.frame.specs.Frame.{dataOf, frame}
 use Rattle.memory.specs.Stores.{same}
 use Rattle.tm32.specs.After.{Telling, lay, replied}
-use Rattle.tm32.specs.Device.{Device, bytesAt, crcStart}
-use Rattle.tm32.specs.Request.{requestIn}
+use Rattle.tm32.specs.Device.{Device, bytesAt}
+use Rattle.tm32_asks.specs.Request.{crcStart, requestIn}
 use Rattle.tm32.specs.Respond.{Answered, greet, helloBack, refuse, replyTo, respond}
 use Rattle.tm32.specs.Work.{readback, work, written}
 use Rattle.tm32.specs.declared.Answer.the-variants.{Refused}
-use Rattle.tm32.specs.declared.Request.{Request}
-use Rattle.tm32.specs.declared.Request.the-variants.{Pps, Get, Read, Write, MemoryCrc, Erase, Go, WriteOptions, ReadOptions, HeartBeat, Misshapen}
+use Rattle.tm32_asks.specs.declared.Request.{Request}
+use Rattle.tm32_asks.specs.declared.Request.the-variants.{Pps, Get, Read, Write, MemoryCrc, Erase, Go, WriteOptions, ReadOptions, HeartBeat, Misshapen}
 use Rattle.tm32.specs.declared.Settings.{Settings}
-use Rattle.tm32.proofs.Accepted.{of-both}
-use Rattle.tm32.proofs.Verdicts.{passAll}
+use Rattle.tm32_asks.proofs.Accepted.{of-both}
+use Rattle.tm32_asks.proofs.Verdicts.{passAll}
 use Rattle.demands.specs.Demand1.Refusals.{isOneOf, isRefusal, refusals}
 use Rattle.demands.specs.Messages.FirstFailing.{Called, heard, unheard}
 use Rattle.demands.specs.Messages.Ways.{Heard, greeted, heard-so, no-frame, same-number, silent, turnedAway, unshaken, workedOn}

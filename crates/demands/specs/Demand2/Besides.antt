@@ -9,11 +9,11 @@ use Rattle.frame.specs.Frame.{dataOf}
 use Rattle.frame.proofs.Laws.{data-bytes}
 use Rattle.memory.proofs.Laws.{AllBytes}
 use Rattle.tm32.specs.After.{replied, tell}
-use Rattle.tm32.specs.Checks.{protections}
+use Rattle.tm32_asks.specs.Checks.{protections}
 use Rattle.tm32.specs.Device.{Device}
-use Rattle.tm32.specs.Request.{requestIn}
+use Rattle.tm32_asks.specs.Request.{requestIn}
 use Rattle.tm32.specs.Respond.{respond}
-use Rattle.tm32.specs.declared.Request.{Request}
+use Rattle.tm32_asks.specs.declared.Request.{Request}
 use Rattle.tm32.specs.declared.Settings.{Settings}
 use Rattle.demands.specs.Demand2.Memories.{MemoryBytes, SameLengths, SameLow, SettingsBytes}
 use Rattle.demands.specs.Demand2.OtherBits.{protections-so, reads-same, writes-same}

@@ -6,7 +6,7 @@ use mathlib.Core.Path.{_≡_}
 use lib.ListN.{length}
 use Rattle.memory.proofs.Laws.{AllBytes}
 use Rattle.tm32.specs.Device.{Memory}
-use Rattle.tm32.specs.Options.{lowByte}
+use Rattle.tm32_asks.specs.Options.{lowByte}
 use Rattle.tm32.specs.declared.Settings.{Settings}
 
 -- That two memories are as long as one another, region by region.

@@ -6,11 +6,11 @@ use lib.ListN.{getD}
 use Rattle.frame.specs.Frame.{dataOf}
 use Rattle.memory.specs.Ranges.{within}
 use Rattle.tm32.specs.Device.{Device, Memory, bytesAt}
-use Rattle.tm32.specs.Map.{flashStart, optionsLength, optionsStart, pageSize}
-use Rattle.tm32.specs.Options.{optionBytes, rdpOn}
-use Rattle.tm32.specs.Request.{requestIn}
-use Rattle.tm32.specs.declared.Request.{Request}
-use Rattle.tm32.specs.declared.Request.the-variants.{Pps, Get, Read, Write, MemoryCrc, Erase, Go, WriteOptions, ReadOptions, HeartBeat, Misshapen}
+use Rattle.tm32_asks.specs.Map.{flashStart, optionsLength, optionsStart, pageSize}
+use Rattle.tm32_asks.specs.Options.{optionBytes, rdpOn}
+use Rattle.tm32_asks.specs.Request.{requestIn}
+use Rattle.tm32_asks.specs.declared.Request.{Request}
+use Rattle.tm32_asks.specs.declared.Request.the-variants.{Pps, Get, Read, Write, MemoryCrc, Erase, Go, WriteOptions, ReadOptions, HeartBeat, Misshapen}
 
 -- The byte at an address.
 unfoldable pub byteAt : Memory → ℕ → ℕ

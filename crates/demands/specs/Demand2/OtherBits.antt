@@ -6,10 +6,10 @@ use mathlib.Core.Path.{_≡_, refl, ap, ap₂, fun-ext}
 use lib.Dec.{eqb, lit≤}
 use Rattle.memory.specs.Pages.{pages}
 use Rattle.memory.specs.declared.PageRun.{PageRun}
-use Rattle.tm32.specs.Checks.{flashPages, protections, readChecks, writeChecks}
-use Rattle.tm32.specs.Options.{inEither, rdpOn, underPcrop, underWrp}
-use Rattle.tm32.specs.declared.Request.{Request}
-use Rattle.tm32.specs.declared.Request.the-variants.{Pps, Get, Read, Write, MemoryCrc, Erase, Go, WriteOptions, ReadOptions, HeartBeat, Misshapen}
+use Rattle.tm32_asks.specs.Checks.{flashPages, protections, readChecks, writeChecks}
+use Rattle.tm32_asks.specs.Options.{inEither, rdpOn, underPcrop, underWrp}
+use Rattle.tm32_asks.specs.declared.Request.{Request}
+use Rattle.tm32_asks.specs.declared.Request.the-variants.{Pps, Get, Read, Write, MemoryCrc, Erase, Go, WriteOptions, ReadOptions, HeartBeat, Misshapen}
 use Rattle.demands.specs.Demand2.Memories.{SameLow}
 
 module _ (one other : List ℕ) (low : SameLow one other) where

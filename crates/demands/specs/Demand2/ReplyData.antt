@@ -8,13 +8,13 @@ use lib.Dec.{lit≤}
 use lib.ListN.{drop-of-length-le, length}
 use Rattle.frame.specs.Frame.{dataOf, frame}
 use Rattle.frame.proofs.Laws.{length-frame}
-use Rattle.tm32.specs.Device.{Device, crcStart}
-use Rattle.tm32.specs.Request.{requestIn}
+use Rattle.tm32.specs.Device.{Device}
+use Rattle.tm32_asks.specs.Request.{crcStart, requestIn}
 use Rattle.tm32.specs.Respond.{Answered, greet, helloBack, refuse, replyTo, respond}
-use Rattle.tm32.specs.Results.{noHandshake, workDone}
+use Rattle.tm32_asks.specs.Results.{noHandshake, workDone}
 use Rattle.tm32.specs.Work.{work}
-use Rattle.tm32.specs.declared.Request.{Request}
-use Rattle.tm32.specs.declared.Request.the-variants.{Pps, Get, Read, Write, MemoryCrc, Erase, Go, WriteOptions, ReadOptions, HeartBeat, Misshapen}
+use Rattle.tm32_asks.specs.declared.Request.{Request}
+use Rattle.tm32_asks.specs.declared.Request.the-variants.{Pps, Get, Read, Write, MemoryCrc, Erase, Go, WriteOptions, ReadOptions, HeartBeat, Misshapen}
 use Rattle.tm32.specs.declared.Settings.{Settings}
 use Rattle.demands.specs.Demand2.Replies.{tellsData}
 use Rattle.demands.specs.Messages.Ways.{Heard, greeted, heard-so, no-frame, same-number, silent, turnedAway, unshaken, workedOn}

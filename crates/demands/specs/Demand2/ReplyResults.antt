@@ -10,20 +10,20 @@ use Rattle.frame.specs.Crc.{crc}
 use Rattle.frame.specs.Frame.{dataOf, frame, word}
 use Rattle.frame.proofs.Laws.{length-frame}
 use Rattle.memory.specs.Stores.{same}
-use Rattle.tm32.specs.Checks.{mostBytes, noneFails}
-use Rattle.tm32.specs.Device.{Device, bytesAt, crcStart}
-use Rattle.tm32.specs.Map.{nvrStart, optionsLength, optionsStart}
-use Rattle.tm32.specs.Numbers.{long}
-use Rattle.tm32.specs.Options.{optionBytes}
-use Rattle.tm32.specs.Request.{requestIn}
+use Rattle.tm32_asks.specs.Checks.{mostBytes, noneFails}
+use Rattle.tm32.specs.Device.{Device, bytesAt}
+use Rattle.tm32_asks.specs.Map.{nvrStart, optionsLength, optionsStart}
+use Rattle.tm32_asks.specs.Numbers.{long}
+use Rattle.tm32_asks.specs.Options.{optionBytes}
+use Rattle.tm32_asks.specs.Request.{crcStart, requestIn}
 use Rattle.tm32.specs.Respond.{Answered, greet, helloBack, refuse, replyTo, respond}
-use Rattle.tm32.specs.Results.{noHandshake, readbackDiffers, workDone, wrongCrc, wrongShape}
+use Rattle.tm32_asks.specs.Results.{noHandshake, readbackDiffers, workDone, wrongCrc, wrongShape}
 use Rattle.tm32.specs.Work.{compared, information, readback, work, written}
-use Rattle.tm32.specs.declared.Request.{Request}
-use Rattle.tm32.specs.declared.Request.the-variants.{Pps, Get, Read, Write, MemoryCrc, Erase, Go, WriteOptions, ReadOptions, HeartBeat, Misshapen}
+use Rattle.tm32_asks.specs.declared.Request.{Request}
+use Rattle.tm32_asks.specs.declared.Request.the-variants.{Pps, Get, Read, Write, MemoryCrc, Erase, Go, WriteOptions, ReadOptions, HeartBeat, Misshapen}
 use Rattle.tm32.specs.declared.Settings.{Settings}
-use Rattle.tm32.proofs.Accepted.{of-both, read-accepted}
-use Rattle.tm32.proofs.Verdicts.{of-numbers, passAll}
+use Rattle.tm32_asks.proofs.Accepted.{of-both, read-accepted}
+use Rattle.tm32_asks.proofs.Verdicts.{of-numbers, passAll}
 use Rattle.tm32.proofs.Written.{part-length, read-length}
 use Rattle.demands.specs.Demand1.Refusals.{isOneOf}
 use Rattle.demands.specs.Demand2.Replies.{Reply, Sized, framed, greeting, isResult, nothing, results}

@@ -11,15 +11,15 @@ use lib.Seq.{drop-append-add, drop-drop, take-at}
 use Rattle.frame.specs.Frame.{reading}
 use Rattle.memory.specs.Stores.{replaced}
 use Rattle.memory.proofs.Laws.{same-equal}
-use Rattle.tm32.specs.Checks.{checks, noneFails, protections}
+use Rattle.tm32_asks.specs.Checks.{checks, noneFails, protections}
 use Rattle.tm32.specs.Device.{Device}
-use Rattle.tm32.specs.Map.{blank, flashLength, pageCount, pageSize}
-use Rattle.tm32.specs.Options.{optionBytes, rdpOn}
-use Rattle.tm32.specs.Request.{readAs, requestIn}
+use Rattle.tm32_asks.specs.Map.{blank, flashLength, pageCount, pageSize}
+use Rattle.tm32_asks.specs.Options.{optionBytes, rdpOn}
+use Rattle.tm32_asks.specs.Request.{readAs, requestIn}
 use Rattle.tm32.specs.Respond.{hello, replyTo, serve}
 use Rattle.tm32.specs.Work.{erased, wiped, wipes, withOptions, work}
-use Rattle.tm32.specs.declared.Request.{Request}
-use Rattle.tm32.specs.declared.Request.the-variants.{Pps, Get, Read, Write, MemoryCrc, Erase, Go, WriteOptions, ReadOptions, HeartBeat, Misshapen}
+use Rattle.tm32_asks.specs.declared.Request.{Request}
+use Rattle.tm32_asks.specs.declared.Request.the-variants.{Pps, Get, Read, Write, MemoryCrc, Erase, Go, WriteOptions, ReadOptions, HeartBeat, Misshapen}
 use Rattle.tm32.specs.declared.Settings.{Settings}
 use Rattle.demands.specs.Demand2.Named.{wipesBy, wiping}
 use Rattle.demands.specs.Demand2.WorkStays.{cannot, not-wiped}

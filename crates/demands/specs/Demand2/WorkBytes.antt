@@ -12,20 +12,20 @@ use Rattle.frame.specs.Frame.{dataOf, frame, word}
 use Rattle.frame.proofs.Laws.{frame-bytes, joined-bytes, last-bytes, more-bytes, none-bytes, word-bytes}
 use Rattle.memory.specs.Stores.{kept}
 use Rattle.memory.proofs.Laws.{AllBytes, kept-bytes, length-kept, part-bytes, replaced-bytes, replicate-bytes}
-use Rattle.tm32.specs.Device.{Device, Memory, bytesAt, crcStart}
-use Rattle.tm32.specs.Map.{blank, flashLength, flashStart, inFlash, inRam, nvrStart, optionsLength, optionsStart, pageCount, pageSize, ramLength, ramStart}
-use Rattle.tm32.specs.Numbers.{long}
-use Rattle.tm32.specs.Options.{optionBytes}
+use Rattle.tm32.specs.Device.{Device, Memory, bytesAt}
+use Rattle.tm32_asks.specs.Map.{blank, flashLength, flashStart, inFlash, inRam, nvrStart, optionsLength, optionsStart, pageCount, pageSize, ramLength, ramStart}
+use Rattle.tm32_asks.specs.Numbers.{long}
+use Rattle.tm32_asks.specs.Options.{optionBytes}
 use Rattle.tm32.specs.Promises.{Lent}
-use Rattle.tm32.specs.Request.{requestIn}
+use Rattle.tm32_asks.specs.Request.{crcStart, requestIn}
 use Rattle.tm32.specs.Respond.{Answered, greet, refuse, replyTo}
-use Rattle.tm32.specs.Results.{noHandshake}
+use Rattle.tm32_asks.specs.Results.{noHandshake}
 use Rattle.tm32.specs.Work.{commandWord, erased, information, wiped, wipes, withOptions, work}
-use Rattle.tm32.specs.declared.Request.{Request}
-use Rattle.tm32.specs.declared.Request.the-variants.{Pps, Get, Read, Write, MemoryCrc, Erase, Go, WriteOptions, ReadOptions, HeartBeat, Misshapen}
+use Rattle.tm32_asks.specs.declared.Request.{Request}
+use Rattle.tm32_asks.specs.declared.Request.the-variants.{Pps, Get, Read, Write, MemoryCrc, Erase, Go, WriteOptions, ReadOptions, HeartBeat, Misshapen}
 use Rattle.tm32.specs.declared.Settings.{Settings}
-use Rattle.tm32.proofs.Accepted.{Shaped, erase-accepted, of-both, write-accepted}
-use Rattle.tm32.proofs.Verdicts.{passAll}
+use Rattle.tm32_asks.proofs.Accepted.{Shaped, erase-accepted, of-both, write-accepted}
+use Rattle.tm32_asks.proofs.Verdicts.{passAll}
 use Rattle.tm32.proofs.Written.{pages-fit, wiped-length}
 use Rattle.demands.specs.Demand1.WorkRefused.{one-of-so}
 use Rattle.demands.specs.Demand2.Memories.{MemoryBytes, SettingsBytes}

@@ -8,14 +8,14 @@ use lib.ListN.{drop, length}
 use Rattle.memory.specs.Stores.{kept}
 use Rattle.memory.proofs.Laws.{length-kept, length-replaced}
 use Rattle.tm32.specs.Device.{Device, Memory}
-use Rattle.tm32.specs.Map.{flashLength, flashStart, nvrStart, optionsLength, optionsStart, pageCount, ramLength, ramStart}
-use Rattle.tm32.specs.Options.{optionBytes}
+use Rattle.tm32_asks.specs.Map.{flashLength, flashStart, nvrStart, optionsLength, optionsStart, pageCount, ramLength, ramStart}
+use Rattle.tm32_asks.specs.Options.{optionBytes}
 use Rattle.tm32.specs.Promises.{Lent}
 use Rattle.tm32.specs.Work.{withOptions, work}
-use Rattle.tm32.specs.declared.Request.{Request}
-use Rattle.tm32.specs.declared.Request.the-variants.{Pps, Get, Read, Write, MemoryCrc, Erase, Go, WriteOptions, ReadOptions, HeartBeat, Misshapen}
+use Rattle.tm32_asks.specs.declared.Request.{Request}
+use Rattle.tm32_asks.specs.declared.Request.the-variants.{Pps, Get, Read, Write, MemoryCrc, Erase, Go, WriteOptions, ReadOptions, HeartBeat, Misshapen}
 use Rattle.tm32.specs.declared.Settings.{Settings}
-use Rattle.tm32.proofs.Accepted.{Shaped, erase-accepted, write-accepted}
+use Rattle.tm32_asks.proofs.Accepted.{Shaped, erase-accepted, write-accepted}
 use Rattle.tm32.proofs.Written.{erased-length, wiped-length}
 use Rattle.demands.specs.Demand2.Memories.{SameLengths}
 use Rattle.demands.specs.Messages.Ways.{Known, Stored, fits, intoFlash, intoNvr, intoRam, nvr-fits, stored-so}

@@ -15,17 +15,17 @@ use Rattle.memory.specs.Stores.{kept, part, replaced}
 use Rattle.memory.specs.declared.PageRun.{PageRun}
 use Rattle.memory.proofs.Laws.{in-region, length-kept, part-at, region-holds, replaced-before, replaced-behind, some-page, touched-page}
 use Rattle.tm32.specs.After.{tell}
-use Rattle.tm32.specs.Checks.{flashPages, noneFails}
+use Rattle.tm32_asks.specs.Checks.{flashPages, noneFails}
 use Rattle.tm32.specs.Device.{Device, Memory, bytesAt}
-use Rattle.tm32.specs.Map.{blank, flashLength, flashStart, inFlash, inNvr, inRam, inReadRegion, inUserNvr, inUserRegion, nvrLength, nvrStart, optionsLength, optionsStart, pageCount, pageSize, ramLength, ramStart, userNvrLength, userNvrStart}
-use Rattle.tm32.specs.Options.{optionBytes, rdpOn, underWrp}
+use Rattle.tm32_asks.specs.Map.{blank, flashLength, flashStart, inFlash, inNvr, inRam, inReadRegion, inUserNvr, inUserRegion, nvrLength, nvrStart, optionsLength, optionsStart, pageCount, pageSize, ramLength, ramStart, userNvrLength, userNvrStart}
+use Rattle.tm32_asks.specs.Options.{optionBytes, rdpOn, underWrp}
 use Rattle.tm32.specs.Promises.{Lent}
-use Rattle.tm32.specs.Request.{requestIn}
+use Rattle.tm32_asks.specs.Request.{requestIn}
 use Rattle.tm32.specs.Work.{erased, wiped, wipes, withOptions, work}
-use Rattle.tm32.specs.declared.Request.{Request}
-use Rattle.tm32.specs.declared.Request.the-variants.{Pps, Get, Read, Write, MemoryCrc, Erase, Go, WriteOptions, ReadOptions, HeartBeat, Misshapen}
+use Rattle.tm32_asks.specs.declared.Request.{Request}
+use Rattle.tm32_asks.specs.declared.Request.the-variants.{Pps, Get, Read, Write, MemoryCrc, Erase, Go, WriteOptions, ReadOptions, HeartBeat, Misshapen}
 use Rattle.tm32.specs.declared.Settings.{Settings}
-use Rattle.tm32.proofs.Accepted.{EraseAccepted, Shaped, WriteAccepted, erase-accepted, write-accepted}
+use Rattle.tm32_asks.proofs.Accepted.{EraseAccepted, Shaped, WriteAccepted, erase-accepted, write-accepted}
 use Rattle.tm32.proofs.Written.{pages-fit}
 use Rattle.demands.specs.Demand2.Named.{byteAt, named, pageOf, wipesBy, wiping}
 use Rattle.demands.specs.Messages.FirstFailing.{requestChecks}

@@ -11,22 +11,23 @@ use Rattle.memory.specs.Stores.{same}
 use Rattle.shape.specs.MoreRights.{Growing, SameWork}
 use Rattle.shape.specs.Shape.{Step, Verdict, passes, refuses, tells}
 use Rattle.tm32.specs.After.{Told, callChecks, noReply}
-use Rattle.tm32.specs.Checks.{Check, checks, checksOf, noneFails, numbersOf, protections, verdict}
+use Rattle.tm32_asks.specs.Checks.{Check, checks, checksOf, noneFails, numbersOf, protections, verdict}
 use Rattle.tm32.specs.Device.{Device, inState}
 use Rattle.tm32.specs.OptionMessages.{optionMessage, touchesOptions}
-use Rattle.tm32.specs.Options.{ProtectAll, optionBytes}
-use Rattle.tm32.specs.Request.{requestIn}
+use Rattle.tm32_asks.specs.Options.{ProtectAll, optionBytes}
+use Rattle.tm32_asks.specs.Request.{requestIn}
 use Rattle.tm32.specs.Respond.{Answered, answered, greet, refuse, replyTo}
-use Rattle.tm32.specs.Results.{noHandshake, workDone}
+use Rattle.tm32_asks.specs.Results.{noHandshake, workDone}
 use Rattle.tm32.specs.Run.{Event, restarted, sent}
 use Rattle.tm32.specs.Work.{work}
-use Rattle.tm32.specs.declared.Request.{Request}
+use Rattle.tm32_asks.specs.declared.Request.{Request}
 use Rattle.tm32.specs.declared.Session.{Session}
 use Rattle.tm32.specs.declared.Settings.{Settings}
 use Rattle.tm32.specs.declared.State.{State}
 use Rattle.tm32.specs.declared.State.the-variants.{Talking}
-use Rattle.tm32.proofs.Accepted.{of-both, shaped-so}
-use Rattle.tm32.proofs.Verdicts.{checks-others, none-fails, passAll, request-others, second-list-decides}
+use Rattle.tm32_asks.proofs.Accepted.{of-both, shaped-so}
+use Rattle.tm32_asks.proofs.Verdicts.{checks-others, none-fails, passAll, request-others, second-list-decides}
+use Rattle.tm32.proofs.Passed.{lent}
 use Rattle.demands.specs.Demand1.Refusals.{isOneOf}
 use Rattle.demands.specs.Demand2.ReplyResults.{of-results}
 use Rattle.demands.specs.Demand3.OfShape.{Stricter, against, doneWith, protectedFrom, refusal, replies, testedFirst, tm32}
@@ -34,7 +35,7 @@ use Rattle.demands.specs.Demand3.OptionsUnseen.{still-session, work-alik
 use Rattle.demands.specs.Demand3.ProtectionGrows.{checks-other, isOther, isProtection, protections-others, protections-own, still-passes}
 use Rattle.demands.specs.Demand3.TwoDevices.{AlikeButOptions, isProtectionRefusal, optionEvent}
 use Rattle.demands.specs.Messages.FirstFailing.{Tells, all-pass, allPass, call-numbers, number-so, oneFails, told}
-use Rattle.demands.specs.Messages.Ways.{Known, byMessage, lent, of-four, of-message}
+use Rattle.demands.specs.Messages.Ways.{Known, byMessage, of-four, of-message}
 
 -- ---- the checks do not look at the option bytes
 

@@ -8,17 +8,17 @@ use lib.Dec.{eqb}
 use Rattle.frame.specs.Frame.{dataOf, frame}
 use Rattle.shape.specs.Shape.{Shape, Step, Verdict, judged, passes, refuses, runBy, stepIn, stepOf}
 use Rattle.tm32.specs.After.{Telling, Told, callChecks, noReply, replied, tell, telling}
-use Rattle.tm32.specs.Checks.{checks, protections, verdict}
-use Rattle.tm32.specs.Device.{Device, crcStart, restart, withSession}
-use Rattle.tm32.specs.Options.{ProtectAll, optionBytes}
-use Rattle.tm32.specs.Request.{requestIn}
+use Rattle.tm32_asks.specs.Checks.{checks, protections, verdict}
+use Rattle.tm32.specs.Device.{Device, restart, withSession}
+use Rattle.tm32_asks.specs.Options.{ProtectAll, optionBytes}
+use Rattle.tm32_asks.specs.Request.{crcStart, requestIn}
 use Rattle.tm32.specs.Respond.{Answered, answered, greet, refuse, replyTo, respond, serve, verdictOn}
-use Rattle.tm32.specs.Results.{noHandshake, workDone}
+use Rattle.tm32_asks.specs.Results.{noHandshake, workDone}
 use Rattle.tm32.specs.Run.{Event, restarted, run, sent}
 use Rattle.tm32.specs.Work.{work}
-use Rattle.tm32.specs.declared.Request.{Request}
+use Rattle.tm32_asks.specs.declared.Request.{Request}
 use Rattle.tm32.specs.declared.Settings.{Settings}
-use Rattle.tm32.proofs.Verdicts.{checks-others, first-list-decides, second-list-decides}
+use Rattle.tm32_asks.proofs.Verdicts.{checks-others, first-list-decides, second-list-decides}
 use Rattle.demands.specs.Demand3.TwoDevices.{AlikeButOptions, happens, isProtectionRefusal}
 use Rattle.demands.specs.Messages.Ways.{byMessage, of-message}
 

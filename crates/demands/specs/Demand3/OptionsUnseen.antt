@@ -14,21 +14,22 @@ use Rattle.memory.specs.Stores.{kept, part, replaced, same}
 use Rattle.memory.proofs.Laws.{length-replaced, part-same, region-holds, replaced-before, replaced-behind, replaced-inside}
 use Rattle.shape.specs.MoreRights.{SameWork}
 use Rattle.tm32.specs.After.{replied}
-use Rattle.tm32.specs.Checks.{checks, isLength, noneFails}
-use Rattle.tm32.specs.Device.{Device, atRate, bytesAt, crcStart, inState, withFlash, withMemory, withNvr, withRam, withSession}
-use Rattle.tm32.specs.Map.{flashStart, inFlash, inNvr, inRam, inReadRegion, inUserNvr, inUserRegion, nvrLength, nvrStart, optionsLength, optionsStart, ramStart, userNvrLength, userNvrStart}
+use Rattle.tm32_asks.specs.Checks.{checks, isLength, noneFails}
+use Rattle.tm32.specs.Device.{Device, atRate, bytesAt, inState, withFlash, withMemory, withNvr, withRam, withSession}
+use Rattle.tm32_asks.specs.Request.{crcStart}
+use Rattle.tm32_asks.specs.Map.{flashStart, inFlash, inNvr, inRam, inReadRegion, inUserNvr, inUserRegion, nvrLength, nvrStart, optionsLength, optionsStart, ramStart, userNvrLength, userNvrStart}
 use Rattle.tm32.specs.OptionMessages.{readsOptions, touchesOptions}
-use Rattle.tm32.specs.Options.{optionBytes}
+use Rattle.tm32_asks.specs.Options.{optionBytes}
 use Rattle.tm32.specs.Promises.{Lent}
 use Rattle.tm32.specs.Respond.{replyTo}
-use Rattle.tm32.specs.Results.{readbackDiffers, workDone, wrongCrc}
+use Rattle.tm32_asks.specs.Results.{readbackDiffers, workDone, wrongCrc}
 use Rattle.tm32.specs.Work.{Worked, compared, erased, readback, work, written}
-use Rattle.tm32.specs.declared.Request.{Request}
-use Rattle.tm32.specs.declared.Request.the-variants.{Pps, Get, Read, Write, MemoryCrc, Erase, Go, WriteOptions, ReadOptions, HeartBeat, Misshapen}
+use Rattle.tm32_asks.specs.declared.Request.{Request}
+use Rattle.tm32_asks.specs.declared.Request.the-variants.{Pps, Get, Read, Write, MemoryCrc, Erase, Go, WriteOptions, ReadOptions, HeartBeat, Misshapen}
 use Rattle.tm32.specs.declared.Session.{Session}
 use Rattle.tm32.specs.declared.Settings.{Settings}
 use Rattle.tm32.specs.declared.State.the-variants.{Gone}
-use Rattle.tm32.proofs.Accepted.{Shaped, crc-accepted, next, read-accepted, write-accepted}
+use Rattle.tm32_asks.proofs.Accepted.{Shaped, crc-accepted, next, read-accepted, write-accepted}
 use Rattle.demands.specs.Demand2.WorkStays.{cannot}
 use Rattle.demands.specs.Demand3.OfShape.{Stricter, replies}
 use Rattle.demands.specs.Demand3.TwoDevices.{AlikeButOptions, holdsOption}

@@ -9,16 +9,16 @@ use Rattle.memory.specs.Pages.{pages}
 use Rattle.memory.specs.declared.PageRun.{PageRun}
 use Rattle.memory.proofs.Laws.{some-grows}
 use Rattle.shape.specs.Shape.{others}
-use Rattle.tm32.specs.Checks.{Check, checks, flashPages, noneFails, numbersOf, protections, readChecks, writeChecks}
-use Rattle.tm32.specs.Options.{ProtectAll, rdpOn, underPcrop, underWrp}
-use Rattle.tm32.specs.Results.{workDone}
+use Rattle.tm32_asks.specs.Checks.{Check, checks, flashPages, noneFails, numbersOf, protections, readChecks, writeChecks}
+use Rattle.tm32_asks.specs.Options.{ProtectAll, rdpOn, underPcrop, underWrp}
+use Rattle.tm32_asks.specs.Results.{workDone}
 use Rattle.tm32.specs.Run.{run}
-use Rattle.tm32.specs.declared.Link.{Link}
-use Rattle.tm32.specs.declared.Link.the-variants.{Uart}
-use Rattle.tm32.specs.declared.Request.{Request}
-use Rattle.tm32.specs.declared.Request.the-variants.{Pps, Get, Read, Write, MemoryCrc, Erase, Go, WriteOptions, ReadOptions, HeartBeat, Misshapen}
-use Rattle.tm32.proofs.Accepted.{next}
-use Rattle.tm32.proofs.Verdicts.{Unnumbered, isNot, of-both-numbers, passAll}
+use Rattle.tm32_asks.specs.declared.Link.{Link}
+use Rattle.tm32_asks.specs.declared.Link.the-variants.{Uart}
+use Rattle.tm32_asks.specs.declared.Request.{Request}
+use Rattle.tm32_asks.specs.declared.Request.the-variants.{Pps, Get, Read, Write, MemoryCrc, Erase, Go, WriteOptions, ReadOptions, HeartBeat, Misshapen}
+use Rattle.tm32_asks.proofs.Accepted.{next}
+use Rattle.tm32_asks.proofs.Verdicts.{Unnumbered, isNot, of-both-numbers, passAll}
 use Rattle.demands.specs.Demand1.Refusals.{isOneOf}
 use Rattle.demands.specs.Demand3.TwoDevices.{protectionResults}
 

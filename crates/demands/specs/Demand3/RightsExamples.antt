@@ -16,14 +16,14 @@ use Rattle.memory.specs.Stores.{kept, masked, part, replaced, same}
 use Rattle.memory.proofs.Laws.{covers-known, in-region}
 use Rattle.shape.specs.Shape.{noneOf, others, tells, without}
 use Rattle.tm32.specs.After.{Told, callChecks, noReply, replied, tell}
-use Rattle.tm32.specs.Checks.{checks, flashPages, protections, readChecks, verdict, writeChecks}
+use Rattle.tm32_asks.specs.Checks.{checks, flashPages, protections, readChecks, verdict, writeChecks}
 use Rattle.tm32.specs.Device.{bytesAt}
 use Rattle.tm32.specs.Fresh.{freshSettings}
-use Rattle.tm32.specs.Map.{inReadRegion, inUserRegion, optionsLength, pageCount}
-use Rattle.tm32.specs.Numbers.{fromOneTo, longAt}
+use Rattle.tm32_asks.specs.Map.{inReadRegion, inUserRegion, optionsLength, pageCount}
+use Rattle.tm32_asks.specs.Numbers.{fromOneTo, longAt}
 use Rattle.tm32.specs.OptionMessages.{isTalking, optionMessage, readsOptions, touchesOptions}
-use Rattle.tm32.specs.Options.{ProtectAll, inEither, optionBytes, rdpOn}
-use Rattle.tm32.specs.Request.{exactly, readAs, requestIn, requestOf, writeIn}
+use Rattle.tm32_asks.specs.Options.{ProtectAll, inEither, optionBytes, rdpOn}
+use Rattle.tm32_asks.specs.Request.{exactly, readAs, requestIn, requestOf, writeIn}
 use Rattle.tm32.specs.Respond.{refuse, replyTo, respond, serve, verdictOn}
 use Rattle.tm32.specs.Run.{run}
 use Rattle.tm32.specs.Work.{erased, readback, work, written}

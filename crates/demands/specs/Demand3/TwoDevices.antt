@@ -8,9 +8,9 @@ use Rattle.memory.specs.Ranges.{within}
 use Rattle.shape.specs.Shape.{Step, noneOf, others, stepOf, without}
 use Rattle.tm32.specs.After.{Told, noReply, replied}
 use Rattle.tm32.specs.Device.{Device}
-use Rattle.tm32.specs.Map.{nvrStart, optionsLength, optionsStart}
+use Rattle.tm32_asks.specs.Map.{nvrStart, optionsLength, optionsStart}
 use Rattle.tm32.specs.OptionMessages.{optionMessage}
-use Rattle.tm32.specs.Results.{pcropProtected, readProtected, writeProtected}
+use Rattle.tm32_asks.specs.Results.{pcropProtected, readProtected, writeProtected}
 use Rattle.tm32.specs.Run.{Event, Ran, restarted, run, sent}
 use Rattle.tm32.specs.declared.Settings.{Settings}
 use Rattle.demands.specs.Demand1.Refusals.{isOneOf}

@@ -6,15 +6,15 @@ use mathlib.Core.Path.{_≡_, refl, sym, ap, _∙_}
 use borrow.Author.Tests.{not-true}
 use lib.Dec.{eqb}
 use Rattle.tm32.specs.After.{Telling, callChecks, noReply, replied, tell, telling}
-use Rattle.tm32.specs.Checks.{Check, checksOf, noneFails, numbersOf, verdict}
+use Rattle.tm32_asks.specs.Checks.{Check, checksOf, noneFails, numbersOf, verdict}
 use Rattle.tm32.specs.Device.{Device}
-use Rattle.tm32.specs.Options.{optionBytes}
+use Rattle.tm32_asks.specs.Options.{optionBytes}
 use Rattle.tm32.specs.Respond.{Answered, refuse, replyTo, respond, serve, verdictOn}
-use Rattle.tm32.specs.Results.{workDone}
+use Rattle.tm32_asks.specs.Results.{workDone}
 use Rattle.tm32.specs.Work.{work}
-use Rattle.tm32.specs.declared.Request.{Request}
+use Rattle.tm32_asks.specs.declared.Request.{Request}
 use Rattle.tm32.specs.declared.Settings.{Settings}
-use Rattle.tm32.proofs.Verdicts.{Unnumbered, isNot, passAll, request-others}
+use Rattle.tm32_asks.proofs.Verdicts.{Unnumbered, isNot, passAll, request-others}
 
 -- That a number is that of the first check that fails: those before it pass, and it does not.
 pub record FirstFailing (list : List Check) (number : ℕ) : Type 0 where

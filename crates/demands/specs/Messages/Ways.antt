@@ -12,20 +12,21 @@ use Rattle.memory.specs.Ranges.{within}
 use Rattle.memory.specs.Stores.{kept, replaced, same}
 use Rattle.memory.proofs.Laws.{region-holds}
 use Rattle.tm32.specs.After.{Telling, callChecks, replied, tell}
-use Rattle.tm32.specs.Checks.{noneFails}
-use Rattle.tm32.specs.Device.{Device, Memory, crcStart, withFlash, withNvr, withRam}
-use Rattle.tm32.specs.Map.{flashStart, inFlash, inRam, inUserNvr, inUserRegion, nvrLength, nvrStart, ramStart, userNvrLength, userNvrStart}
+use Rattle.tm32_asks.specs.Checks.{noneFails}
+use Rattle.tm32.specs.Device.{Device, Memory, withFlash, withNvr, withRam}
+use Rattle.tm32_asks.specs.Map.{flashStart, inFlash, inRam, inUserNvr, inUserRegion, nvrLength, nvrStart, ramStart, userNvrLength, userNvrStart}
 use Rattle.tm32.specs.OptionMessages.{isTalking}
 use Rattle.tm32.specs.Promises.{Lent}
-use Rattle.tm32.specs.Request.{requestIn}
+use Rattle.tm32_asks.specs.Request.{crcStart, requestIn}
 use Rattle.tm32.specs.Respond.{Answered, answered, greet, hello, isGone, isWaiting, refuse, replyTo, respond, serve}
-use Rattle.tm32.specs.Results.{noHandshake}
+use Rattle.tm32_asks.specs.Results.{noHandshake}
 use Rattle.tm32.specs.Work.{work, written}
-use Rattle.tm32.specs.declared.Request.{Request}
+use Rattle.tm32_asks.specs.declared.Request.{Request}
 use Rattle.tm32.specs.declared.Settings.{Settings}
 use Rattle.tm32.specs.declared.State.{State}
 use Rattle.tm32.specs.declared.State.the-variants.{Waiting, Talking, Gone}
-use Rattle.tm32.proofs.Accepted.{Shaped, next, shaped-so}
+use Rattle.tm32_asks.proofs.Accepted.{Shaped, next, shaped-so}
+use Rattle.tm32.proofs.Passed.{lent}
 use Rattle.demands.specs.Messages.FirstFailing.{Called, FirstFailing, Served, accepted, called, heard, refused, requestChecks, served, unheard}
 
 -- That a message is neither empty nor the handshake.
@@ -131,23 +132,6 @@ module _ (settings : Settings) (device : Device) (message : List ℕ) where
   asked asks talks =
       let here = talking-here (device .session .state) talks in
       rw (asks .some, asks .other, here .0, here .1)
-
--- ---- what the checks say where they pass
-
--- the lengths of a call that is heard
-pub lent : (device : Device) (room : ℕ) → noneFails (callChecks device room) ≡ true → Lent (device .memory) room
-unfolding callChecks
-lent device room pass =
-    let flash = next _ _ pass in
-    let ram = next _ _ (flash .1) in
-    let nvr = next _ _ (ram .1) in
-    let space = next _ _ (nvr .1) in
-    record {
-      flash = eqb-true _ _ (not-false _ (flash .0));
-      ram = eqb-true _ _ (not-false _ (ram .0));
-      nvr = eqb-true _ _ (not-false _ (nvr .0));
-      space = ltb-false _ _ (space .0);
-    }
 
 -- ---- where bytes are stored
 

@@ -11,11 +11,11 @@ use Rattle.frame.specs.Frame.{word}
 use Rattle.memory.specs.Stores.{Change, change, replaced, replacing}
 use Rattle.memory.proofs.Laws.{stored}
 use Rattle.tm32.specs.After.{callChecks}
-use Rattle.tm32.specs.Checks.{verdict}
+use Rattle.tm32_asks.specs.Checks.{verdict}
 use Rattle.tm32.specs.Device.{memoryOf}
 use Rattle.tm32.specs.Fresh.{freshDevice, freshFlash, freshNvr, freshOptions, freshRam}
-use Rattle.tm32.specs.Numbers.{fromOneTo}
-use Rattle.tm32.specs.Map.{flashLength, nvrLength, nvrStart, optionsStart, ramLength}
+use Rattle.tm32_asks.specs.Numbers.{fromOneTo}
+use Rattle.tm32_asks.specs.Map.{flashLength, nvrLength, nvrStart, optionsStart, ramLength}
 use Rattle.tm32.specs.declared.Session.{Session}
 use Rattle.tape.specs.Starting.{started, starting}
 use Rattle.tape.specs.declared.Begun.the-variants.{Ready}

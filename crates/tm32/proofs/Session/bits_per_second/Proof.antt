@@ -2,8 +2,8 @@
 use mathlib.Core.Path.{refl}
 use borrow.Author.Needs.{needs}
 use borrow.Author.Tests.{le-leb, lt-leb}
-use Rattle.tm32.specs.Numbers.{fromOneTo}
-use Rattle.tm32.specs.Rates.{bitsPerSecond, rates}
+use Rattle.tm32_asks.specs.Numbers.{fromOneTo}
+use Rattle.tm32_asks.specs.Rates.{bitsPerSecond, rates}
 use Rattle.tm32.proofs.Session.bits_per_second.Statement.{statement}
 use Rattle.tm32.proofs.Session.bits_per_second.Tie as tie
 

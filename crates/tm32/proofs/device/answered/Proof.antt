@@ -10,18 +10,20 @@ use denote.Ref.{now}
 use lib.ListN.{length}
 use types.Run.{OneOf, miss}
 use Rattle.frame.specs.Frame.{frame}
-use Rattle.tm32.specs.Checks.{checksOf, noneFails}
-use Rattle.tm32.specs.Device.{Device, Memory, crcStart, deviceOf, memoryOf}
+use Rattle.tm32_asks.specs.Checks.{checksOf, noneFails}
+use Rattle.tm32.specs.Device.{Device, Memory, deviceOf, memoryOf}
+use Rattle.tm32_asks.specs.Request.{crcStart}
 use Rattle.tm32.specs.Promises.{Laid, Lent}
 use Rattle.tm32.specs.Work.{work}
-use Rattle.tm32.specs.declared.Request.{Request}
-use Rattle.tm32.specs.declared.Request.the-variants.{Pps, Get, Read, Write, MemoryCrc, Erase, Go, WriteOptions, ReadOptions, HeartBeat, Misshapen}
+use Rattle.tm32_asks.specs.declared.Request.{Request}
+use Rattle.tm32_asks.specs.declared.Request.the-variants.{Pps, Get, Read, Write, MemoryCrc, Erase, Go, WriteOptions, ReadOptions, HeartBeat, Misshapen}
 use Rattle.tm32.specs.declared.Session.{Session}
 use Rattle.tm32.specs.declared.Settings.{Settings}
 use Rattle.tm32.specs.declared.Turn.{Turn}
-use Rattle.tm32.proofs.Accepted.{passed-as, read-accepted}
-use Rattle.tm32.proofs.Request.{the-type}
+use Rattle.tm32_asks.proofs.Accepted.{read-accepted}
+use Rattle.tm32_asks.proofs.Request.{the-type}
 use Rattle.tm32.proofs.Written.{options-length, read-length}
+use Rattle.tm32.proofs.Passed.{passed-as}
 use Rattle.tm32.proofs.device.answered.Statement.{statement}
 use Rattle.tm32.proofs.device.answered.Tie as tie
 

@@ -11,18 +11,19 @@ use lib.ListN.{drop, length}
 use types.Run.{OneOf, miss}
 use Rattle.frame.specs.Frame.{dataOf}
 use Rattle.tm32.specs.After.{replyRoom}
-use Rattle.tm32.specs.Checks.{checks, checksOf, noneFails}
+use Rattle.tm32_asks.specs.Checks.{checks, checksOf, noneFails}
 use Rattle.tm32.specs.Device.{Memory, deviceOf, memoryOf}
-use Rattle.tm32.specs.Map.{inUserRegion}
+use Rattle.tm32_asks.specs.Map.{inUserRegion}
 use Rattle.tm32.specs.Promises.{Changed, Lent, LetThrough}
-use Rattle.tm32.specs.Results.{workDone}
+use Rattle.tm32_asks.specs.Results.{workDone}
 use Rattle.tm32.specs.Work.{readback, withOptions, work, written}
-use Rattle.tm32.specs.declared.Request.{Request}
-use Rattle.tm32.specs.declared.Request.the-variants.{Pps, Get, Read, Write, MemoryCrc, Erase, Go, WriteOptions, ReadOptions, HeartBeat, Misshapen}
+use Rattle.tm32_asks.specs.declared.Request.{Request}
+use Rattle.tm32_asks.specs.declared.Request.the-variants.{Pps, Get, Read, Write, MemoryCrc, Erase, Go, WriteOptions, ReadOptions, HeartBeat, Misshapen}
 use Rattle.tm32.specs.declared.Session.{Session}
 use Rattle.tm32.specs.declared.Settings.{Settings}
-use Rattle.tm32.proofs.Accepted.{Shaped, crc-accepted, erase-accepted, passed-as, shaped-as, write-accepted}
-use Rattle.tm32.proofs.Request.{the-type}
+use Rattle.tm32_asks.proofs.Accepted.{Shaped, crc-accepted, erase-accepted, shaped-as, write-accepted}
+use Rattle.tm32_asks.proofs.Request.{the-type}
+use Rattle.tm32.proofs.Passed.{passed-as}
 use Rattle.tm32.proofs.device.change.Statement.{statement}
 use Rattle.tm32.proofs.device.change.Tie as tie
 

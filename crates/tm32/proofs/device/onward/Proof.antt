@@ -7,10 +7,10 @@ use denote.Enum.Declared.{tagOf}
 use types.Run.{OneOf, miss}
 use Rattle.tm32.specs.Promises.{GoesOn}
 use Rattle.tm32.specs.Work.{work}
-use Rattle.tm32.specs.declared.Request.{Request}
-use Rattle.tm32.specs.declared.Request.the-variants.{Pps, Get, Read, Write, MemoryCrc, Erase, Go, WriteOptions, ReadOptions, HeartBeat, Misshapen}
+use Rattle.tm32_asks.specs.declared.Request.{Request}
+use Rattle.tm32_asks.specs.declared.Request.the-variants.{Pps, Get, Read, Write, MemoryCrc, Erase, Go, WriteOptions, ReadOptions, HeartBeat, Misshapen}
 use Rattle.tm32.specs.declared.Session.{Session}
-use Rattle.tm32.proofs.Request.{the-type}
+use Rattle.tm32_asks.proofs.Request.{the-type}
 use Rattle.tm32.proofs.device.onward.Statement.{statement}
 use Rattle.tm32.proofs.device.onward.Tie as tie
 

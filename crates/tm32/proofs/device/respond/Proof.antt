@@ -11,9 +11,9 @@ use Rattle.frame.specs.Frame.{dataOf}
 use Rattle.memory.specs.Stores.{same}
 use Rattle.tm32.specs.Device.{Device, deviceOf, memoryOf}
 use Rattle.tm32.specs.Promises.{layAnswer}
-use Rattle.tm32.specs.Request.{requestIn}
+use Rattle.tm32_asks.specs.Request.{requestIn}
 use Rattle.tm32.specs.Respond.{answered, greet, hello, isGone, isWaiting, refuse, respond, serve}
-use Rattle.tm32.specs.Results.{noHandshake}
+use Rattle.tm32_asks.specs.Results.{noHandshake}
 use Rattle.tm32.specs.declared.Settings.{Settings}
 use Rattle.tm32.proofs.Answers.{answers, nothing-laid}
 use Rattle.tm32.proofs.device.respond.Statement.{statement}

@@ -5,13 +5,12 @@ use mathlib.Core.Path.{_≡_, sym, ap, _∙_}
 use denote.Ref.{now}
 use lib.ListN.{length}
 use borrow.Author.Needs.{needs}
-use Rattle.tm32.specs.Checks.{checksOf, verdict}
+use Rattle.tm32_asks.specs.Checks.{checksOf, verdict}
 use Rattle.tm32.specs.Device.{Device, deviceOf, memoryOf}
 use Rattle.tm32.specs.Promises.{layAnswer}
 use Rattle.tm32.specs.Respond.{verdictOn}
-use Rattle.tm32.specs.Results.{workDone}
+use Rattle.tm32_asks.specs.Results.{workDone}
 use Rattle.tm32.proofs.Answers.{answers, refuses, serves}
-use Rattle.tm32.proofs.Written.{options-length}
 use Rattle.tm32.proofs.device.serve.Statement.{statement}
 use Rattle.tm32.proofs.device.serve.Tie as tie
 
@@ -31,11 +30,6 @@ module _ (c : tie.After-verdict) where
   verdict-is =
       c .verdict .ensures
       ∙ ap (λ (options : List ℕ). verdict workDone (checksOf (start .args .session .link) options (asked .request-in .result))) (c .before .work .ensures)
-
-verdict-requires : tie.Need-verdict-requires
-verdict-requires c κs =
-    let start = c .before .before .before .before .before .before .before .before in
-    ap length (c .work .ensures) ∙ options-length (now (start .args .nvr)) (start .pre .nvr)
 
 returns : tie.Need-returns
 returns c =
@@ -63,7 +57,7 @@ serve-spec =
     (tie.spec
     (search needs)
     (search needs)
-    verdict-requires
+    (search needs)
     (search needs)
     (search needs)
     (search needs)

@@ -9,17 +9,18 @@ use denote.Ref.{now}
 use lib.ListN.{length}
 use Rattle.frame.specs.Frame.{frame}
 use Rattle.tm32.specs.After.{replyRoom}
-use Rattle.tm32.specs.Device.{Device, Memory, crcStart, deviceOf, memoryOf}
-use Rattle.tm32.specs.Options.{optionBytes}
+use Rattle.tm32.specs.Device.{Device, Memory, deviceOf, memoryOf}
+use Rattle.tm32_asks.specs.Request.{crcStart}
+use Rattle.tm32_asks.specs.Options.{optionBytes}
 use Rattle.tm32.specs.Promises.{Changed, GoesOn, LetThrough}
 use Rattle.tm32.specs.Respond.{Answered, answered, replyTo}
 use Rattle.tm32.specs.Work.{Worked, work}
-use Rattle.tm32.specs.declared.Request.{Request}
-use Rattle.tm32.specs.declared.Request.the-variants.{Pps, Get, Read, Write, MemoryCrc, Erase, Go, WriteOptions, ReadOptions, HeartBeat, Misshapen}
+use Rattle.tm32_asks.specs.declared.Request.{Request}
+use Rattle.tm32_asks.specs.declared.Request.the-variants.{Pps, Get, Read, Write, MemoryCrc, Erase, Go, WriteOptions, ReadOptions, HeartBeat, Misshapen}
 use Rattle.tm32.specs.declared.Session.{Session}
 use Rattle.tm32.specs.declared.Settings.{Settings}
-use Rattle.tm32.proofs.Accepted.{let-through}
 use Rattle.tm32.proofs.Answers.{answers}
+use Rattle.tm32.proofs.Passed.{let-through}
 use Rattle.tm32.proofs.device.work.Statement.{statement}
 use Rattle.tm32.proofs.device.work.Tie as tie
 

@@ -4,7 +4,7 @@ use mathlib.Core.Path.{_≡_}
 use native.Mathlib.Omega.{arith}
 use borrow.Author.Needs.{needs}
 use Rattle.frame.specs.Frame.{word}
-use Rattle.tm32.specs.Numbers.{long}
+use Rattle.tm32_asks.specs.Numbers.{long}
 use Rattle.tm32.proofs.get.long.Statement.{statement}
 use Rattle.tm32.proofs.get.long.Tie as tie
 

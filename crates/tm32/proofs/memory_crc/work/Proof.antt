@@ -5,7 +5,7 @@ use mathlib.Core.Path.{_≡_, sym, ap, _∙_}
 use borrow.Author.Needs.{needs}
 use borrow.Author.Tests.{eq-eqb, ne-eqb}
 use Rattle.frame.specs.Crc.{crc}
-use Rattle.tm32.specs.Device.{crcStart}
+use Rattle.tm32_asks.specs.Request.{crcStart}
 use Rattle.tm32.specs.Work.{compared}
 use Rattle.tm32.proofs.Regions.{user-is-read}
 use Rattle.tm32.proofs.memory_crc.work.Statement.{statement}

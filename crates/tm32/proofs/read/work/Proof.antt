@@ -6,7 +6,7 @@ use mathlib.Core.Path.{_≡_, refl, sym, ap, _∙_}
 use borrow.Author.Needs.{needs}
 use Rattle.memory.specs.Stores.{part}
 use Rattle.tm32.specs.Device.{bytesAt, memoryOf}
-use Rattle.tm32.specs.Map.{flashStart, inFlash, inFlashOrRam, inRam, nvrStart, ramStart}
+use Rattle.tm32_asks.specs.Map.{flashStart, inFlash, inFlashOrRam, inRam, nvrStart, ramStart}
 use Rattle.tm32.proofs.Regions.{held, not-in-nvr, nvr-apart}
 use Rattle.tm32.proofs.read.work.Statement.{statement}
 use Rattle.tm32.proofs.read.work.Tie as tie

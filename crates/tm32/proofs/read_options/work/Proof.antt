@@ -2,7 +2,7 @@
 use mathlib.Core.Path.{refl}
 use borrow.Author.Needs.{needs}
 use Rattle.memory.specs.Stores.{part}
-use Rattle.tm32.specs.Options.{optionBytes}
+use Rattle.tm32_asks.specs.Options.{optionBytes}
 use Rattle.tm32.proofs.read_options.work.Statement.{statement}
 use Rattle.tm32.proofs.read_options.work.Tie as tie
 

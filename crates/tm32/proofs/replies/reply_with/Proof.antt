@@ -10,7 +10,7 @@ use Rattle.frame.specs.Frame.{Outcome, frame, laid, outcome}
 use Rattle.frame.specs.declared.Written.{Written}
 use Rattle.frame.specs.declared.Written.the-variants.{Frame, TooLong, NoRoom}
 use Rattle.frame.proofs.Laws.{length-frame, written}
-use Rattle.tm32.specs.Device.{crcStart}
+use Rattle.tm32_asks.specs.Request.{crcStart}
 use Rattle.tm32.specs.Promises.{Laid}
 use Rattle.tm32.specs.declared.Answer.the-variants.{Reply}
 use Rattle.tm32.proofs.replies.reply_with.Statement.{statement}

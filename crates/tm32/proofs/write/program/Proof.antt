@@ -12,7 +12,7 @@ use Rattle.memory.specs.Stores.{Outcome, kept, outcome, replaced, same}
 use Rattle.memory.specs.declared.Programmed.{Programmed}
 use Rattle.memory.specs.declared.Programmed.the-variants.{AsGiven, Differs, Outside}
 use Rattle.memory.proofs.Laws.{programmed}
-use Rattle.tm32.specs.Results.{readbackDiffers, workDone}
+use Rattle.tm32_asks.specs.Results.{readbackDiffers, workDone}
 use Rattle.tm32.proofs.write.program.Statement.{statement}
 use Rattle.tm32.proofs.write.program.Tie as tie
 

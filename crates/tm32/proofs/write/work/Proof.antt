@@ -11,8 +11,8 @@ use lib.ListN.{length}
 use Rattle.memory.specs.Stores.{change, kept, part, replaced, replacing, same}
 use Rattle.memory.proofs.Laws.{length-kept, part-of-replaced, region-holds, same-itself}
 use Rattle.tm32.specs.Device.{Memory, bytesAt, memoryOf}
-use Rattle.tm32.specs.Map.{flashLength, flashStart, inFlash, inRam, inUserNvr, inUserRegion, nvrStart, ramLength, ramStart, userNvrLength, userNvrStart}
-use Rattle.tm32.specs.Results.{readbackDiffers, workDone}
+use Rattle.tm32_asks.specs.Map.{flashLength, flashStart, inFlash, inRam, inUserNvr, inUserRegion, nvrStart, ramLength, ramStart, userNvrLength, userNvrStart}
+use Rattle.tm32_asks.specs.Results.{readbackDiffers, workDone}
 use Rattle.tm32.specs.Work.{readback, written}
 use Rattle.tm32.proofs.Written.{stores}
 use Rattle.tm32.proofs.write.work.Statement.{statement}

@@ -9,7 +9,7 @@ use native.Mathlib.Omega.{arith}
 use borrow.Author.Needs.{needs}
 use denote.Ref.{now}
 use lib.ListN.{length}
-use Rattle.tm32.specs.Map.{flashLength, pageCount}
+use Rattle.tm32_asks.specs.Map.{flashLength, pageCount}
 use Rattle.tm32.specs.Work.{erased, wiped, wipes}
 use Rattle.tm32.proofs.Written.{wiped-length}
 use Rattle.tm32.proofs.write_options.wipe.Statement.{statement}
@@ -26,7 +26,7 @@ long : (c : tie.At-loop Inv-loop μ-loop) → length (c .loop .flash) ≡ flashL
 long c =
     let start = c .before .before .before .before in
     ap length (c .loop .inv .0)
-    ∙ wiped-length (now (start .args .old)) (now (start .args .new)) _ (now (start .args .flash)) (start .pre .1 .1) (c .loop .inv .1)
+    ∙ wiped-length (now (start .args .old)) (now (start .args .new)) _ (now (start .args .flash)) (start .pre) (c .loop .inv .1)
 
 -- what a test chooses, by the test's answer
 chosen : {test answer : Bool} → test ≡ answer → (one other : List ℕ) → cond answer one other ≡ cond test one other
@@ -72,7 +72,7 @@ loop-again c =
     (turn _ _ _ _ _ _ _ (wipes .wipes .ensures) (wipes .before .before .loop .inv .0) (stepped c), omega arith)
 
 same-length : tie.Need-same-length Inv-loop μ-loop
-same-length c = long (c .before) ∙ sym (c .before .before .before .before .before .pre .1 .1)
+same-length c = long (c .before) ∙ sym (c .before .before .before .before .before .pre)
 
 returns : tie.Need-returns Inv-loop μ-loop
 returns c =

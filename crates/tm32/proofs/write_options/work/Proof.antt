@@ -6,9 +6,9 @@ use native.Mathlib.Omega.{arith}
 use borrow.Author.Needs.{needs}
 use denote.Ref.{now}
 use lib.ListN.{length}
-use Rattle.tm32.specs.Map.{pageCount}
+use Rattle.tm32_asks.specs.Map.{pageCount}
 use Rattle.tm32.specs.Work.{wiped}
-use Rattle.tm32.proofs.Written.{options-length, stores}
+use Rattle.tm32.proofs.Written.{stores}
 use Rattle.tm32.proofs.write_options.work.Statement.{statement}
 use Rattle.tm32.proofs.write_options.work.Tie as tie
 
@@ -16,11 +16,7 @@ work-requires : tie.Need-work-requires
 work-requires c κs = search needs
 
 wipe-requires : tie.Need-wipe-requires
-wipe-requires c κs =
-    let start = c .before .before .before .before .before .before in (
-      ap length (c .before .work .ensures) ∙ options-length (now (start .args .nvr)) (start .pre .1 .0),
-      (start .pre .1 .1, start .pre .0),
-    )
+wipe-requires c κs = search needs
 
 store-requires : tie.Need-store-requires
 store-requires c κs = search needs
