@@ -7,7 +7,7 @@ use mathlib.Core.List.{List, [], _∷_, _++_}
 use mathlib.Core.Logic.{_≢_}
 use mathlib.Core.Path.{ap}
 use lib.Dec.{eqb}
-use lib.ListN.{getD, replicate}
+use lib.ListN.{drop, getD, length, replicate}
 use Rattle.frame.specs.Crc.{bitDone, bitsDone, byteDone, crc, polynomial, shifted}
 use Rattle.frame.specs.Frame.{covered, dataOf, frame, laid, reading, word, wordAt, writing}
 use Rattle.memory.specs.Pages.{covers, pages, someFrom, somePage, touched}
@@ -18,14 +18,16 @@ use Rattle.tm32.specs.After.{after, callChecks, lay, tell}
 use Rattle.tm32_asks.specs.Checks.{checks, flashPages, isUart, protections, readChecks, verdict, writeChecks}
 use Rattle.tm32.specs.Device.{Device, restart, sessionOf, start}
 use Rattle.tm32.specs.Fresh.{freshDevice, freshFlash, freshNvr, freshOptions, freshRam, freshSettings}
-use Rattle.tm32_asks.specs.Map.{inGoRegion, inReadRegion, inUserRegion}
+use Rattle.tm32_asks.specs.Map.{inFlash, inGoRegion, inNvr, inRam, inReadRegion, inUserRegion}
 use Rattle.tm32_asks.specs.Numbers.{fromOneTo, longAt}
 use Rattle.tm32_asks.specs.Options.{inEither, optionBytes, rdpOn}
-use Rattle.tm32_asks.specs.Rates.{bitsPerSecond, rates}
+use Rattle.tm32_asks.specs.Rates.{bitsPerSecond, isRate, rates}
 use Rattle.tm32_asks.specs.Request.{exactly, readAs, requestIn, requestOf, writeIn}
 use Rattle.tm32.specs.Respond.{greet, isWaiting, refuse, replyTo, respond, serve, verdictOn}
 use Rattle.tm32.specs.Work.{erased, wiped, wipes, withOptions, work, written}
 use Rattle.tm32_asks.specs.declared.Link.the-variants.{Spi, Uart}
+use Rattle.tm32_asks.specs.declared.Request.{Request}
+use Rattle.tm32_asks.specs.declared.Request.the-variants.{HeartBeat}
 use Rattle.tm32.specs.declared.Session.{Session}
 use Rattle.tm32.specs.declared.State.the-variants.{Talking, Waiting}
 use Rattle.cases.specs.Cases.{fullDevice, fullFlash, onBench, oneByte, pcrop5, prepared, rdpWrp7, wrp7}
@@ -84,6 +86,68 @@ fill-one-more is = true≢false (ap (same (1 ∷ 9 ∷ 3 ∷ [])) is)
 pub nothing-touches-a-page : touched 1024 1024 0 ≢ pages 1 1
 unfolding touched
 nothing-touches-a-page is = true≢false (ap (λ (run : PageRun). eqb (run .count) 0) is)
+
+-- ---- tm32_asks
+
+-- request_in: an unknown command is read as the one before it
+pub unknown-command-read : requestIn (message 0x42 []) ≢ HeartBeat
+unfolding message frame covered word crc byteDone bitsDone bitDone shifted polynomial reading wordAt dataOf requestIn readAs requestOf checks
+unknown-command-read is = true≢false (ap (λ (request : Request). eqb (length (checks Uart request)) 1) is)
+
+-- request_in: data that the command does not take is passed over
+pub data-passed-over : requestIn (message 0x41 (0x55 ∷ [])) ≢ HeartBeat
+unfolding message frame covered word crc byteDone bitsDone bitDone shifted polynomial reading wordAt dataOf requestIn readAs requestOf exactly checks
+data-passed-over is = true≢false (ap (λ (request : Request). eqb (length (checks Uart request)) 1) is)
+
+-- bytes_to_write: the last byte of the address is taken for the first of the data
+pub address-among-the-bytes : drop 5 (hex 7 0x0100040008A5A6) ≢ hex 3 0x08A5A6
+unfolding hex same
+address-among-the-bytes is = true≢false (ap (same (hex 2 0xA5A6)) is)
+
+-- bytes_to_write: data too short for flag and address is handed on as it is
+pub short-data-handed-on : drop 5 (hex 4 0x01000400) ≢ hex 4 0x01000400
+unfolding hex same
+short-data-handed-on is = true≢false (ap (same []) is)
+
+-- is_rate: code 0 is taken for a rate
+pub nought-is-a-rate : isRate 0x00 ≢ true
+unfolding fromOneTo
+nought-is-a-rate is = false≢true is
+
+-- is_rate: and so is the code above the last
+pub rate-above-the-last : isRate 0x11 ≢ true
+unfolding fromOneTo
+rate-above-the-last is = false≢true is
+
+-- in_flash: a range that only begins in the flash
+pub flash-runs-on : inFlash 0x08007FFF 2 ≢ true
+unfolding within
+flash-runs-on is = false≢true is
+
+-- in_flash: the last byte is left out
+pub flash-ends-early : inFlash 0x08007FFF 1 ≢ false
+unfolding within
+flash-ends-early is = true≢false is
+
+-- in_ram: the RAM that the boot loader keeps counts too
+pub loader-ram-counts : inRam 0x20001BFF 1 ≢ true
+unfolding within
+loader-ram-counts is = false≢true is
+
+-- in_ram: a range that only begins in the RAM
+pub ram-runs-on : inRam 0x20003FFF 2 ≢ true
+unfolding within
+ram-runs-on is = false≢true is
+
+-- in_nvr: only the user's own two count
+pub only-user-nvr : inNvr 0x1FFF0000 1 ≢ false
+unfolding within
+only-user-nvr is = true≢false is
+
+-- in_nvr: a range that only begins in the NVR
+pub nvr-runs-on : inNvr 0x1FFF17FF 2 ≢ true
+unfolding within
+nvr-runs-on is = false≢true is
 
 -- ---- tm32
 
