@@ -9,10 +9,11 @@ use Rattle.frame.specs.Frame.{laid, word}
 use Rattle.tm32.specs.After.{After, Told, noReply, replied}
 use Rattle.tm32.specs.Device.{Device, memoryOf}
 use Rattle.tm32.specs.Promises.{leaves}
+use Rattle.tm32.specs.declared.Answer.{Answer}
 use Rattle.tm32.specs.declared.Answer.the-variants.{Reply, Refused}
 use Rattle.tm32.specs.declared.Turn.{Turn}
 use Rattle.tape.specs.Play.{replyKind}
-use Rattle.tape.specs.Promises.{layRecord, offAt, onTo, strideOf, strideTo}
+use Rattle.tape.specs.Promises.{layRecord, movedBy, offAt, onTo, strideOf, strideTo}
 use Rattle.tape.specs.Records.{headLength, headOf, recordOf}
 use Rattle.tape.specs.declared.Place.{Place}
 use Rattle.tape.specs.declared.Step.{Step}
@@ -74,3 +75,15 @@ module _ (place : Place) (buffer : List ℕ) where
         ap (λ (one : Step). strideOf one (memoryOf flash ram nvr) (with-part got)) off
         ∙ ap₂ (λ (one : ℕ) (after : After). strideOf (Off (offAt place (Unheard one))) (after .device .memory) (with-part (after .buffer))) same did
         ∙ ap (strideOf (Off (offAt place (Unheard other))) (device .memory)) (put-same (place .written) (length buffer - place .written) buffer)
+
+    -- so it is with every answer
+    pub strides-moved : (told : Told) (count : ℕ) (step : Step) → leaves turn flash ram nvr got ≡ layRecord lent device told
+        → step ≡ movedBy place (turn .session) (turn .answer) count
+        → strideOf step (memoryOf flash ram nvr) (with-part got) ≡ strideTo place count buffer device told
+    unfolding layRecord
+    strides-moved (replied bytes) count step did is =
+        let answered : turn .answer ≡ Reply (length bytes) = ap (λ (after : After). after .answer) did in
+        strides-on (replied bytes) count (length bytes) step answered did (is ∙ ap (λ (answer : Answer). movedBy place (turn .session) answer count) answered)
+    strides-moved (noReply number) count step did is =
+        let answered : turn .answer ≡ Refused number = ap (λ (after : After). after .answer) did in
+        strides-off (noReply number) count number step answered did (is ∙ ap (λ (answer : Answer). movedBy place (turn .session) answer count) answered)

@@ -1,5 +1,5 @@
 -- The words in which the player's own functions promise what they do. What a tape does is laid down without them.
-use Prim.Native.Nat.{ℕ, _+_, _-_, _≤_, _<_}
+use Prim.Native.Nat.{ℕ, _+_, _-_, _≤_, _<_, _^_}
 use mathlib.Core.Bool.{Bool, cond}
 use mathlib.Core.List.{List, _++_}
 use mathlib.Core.Path.{_≡_}
@@ -8,6 +8,7 @@ use lib.ListN.{length, take, drop}
 use Rattle.frame.specs.Frame.{laid}
 use Rattle.tm32.specs.After.{After, Telling, Told, afterOf, noReply, replied, replyRoom, tell}
 use Rattle.tm32.specs.Device.{Device, Memory, deviceOf}
+use Rattle.tm32.specs.declared.Answer.{Answer}
 use Rattle.tm32.specs.declared.Answer.the-variants.{Reply, Refused as NoReply}
 use Rattle.tm32.specs.declared.Session.{Session}
 use Rattle.tm32.specs.declared.Settings.{Settings}
@@ -68,6 +69,16 @@ offAt place stop = record { session = place .session; used = place .used; writte
 -- A step from a place to one behind it, with the session that came of it.
 abbrev pub onTo : Place → Session → ℕ → ℕ → Step
 onTo place session used written = On (record { session = session; used = place .used + used; written = place .written + written })
+
+-- The step behind a message of so many bytes, by the device's answer: behind its record and its reply's, or none where it was refused.
+abbrev pub movedBy : Place → Session → Answer → ℕ → Step
+movedBy place session (Reply count) size = onTo place session (headLength + size) (headLength + count)
+movedBy place session (NoReply number) size = Off (offAt place (Refused number))
+
+-- That such a step can be counted.
+pub record Countable (place : Place) (answer : Answer) (size : ℕ) : Type 0 where
+  pub used : place .used + (headLength + size) < 2 ^ 64
+  pub written : (count : ℕ) → answer ≡ Reply count → place .written + (headLength + count) < 2 ^ 64
 
 -- A message's reply, laid over the start of a part of the buffer as a record.
 unfoldable pub layRecord : List ℕ → Device → Told → After

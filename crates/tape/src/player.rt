@@ -21,7 +21,7 @@ ghost use Rattle.frame.specs.Frame.{laid};
 ghost use Rattle.tm32.specs.Device.{deviceOf, memoryOf};
 ghost use Rattle.tm32.specs.Promises.{leaves};
 ghost use Rattle.tape.specs.Play.{errorKind, leftBy, played, recordRoom};
-ghost use Rattle.tape.specs.Promises.{Closes, Stands, Stepped, offAt, onTo, recorded, strideOf, striding};
+ghost use Rattle.tape.specs.Promises.{Closes, Countable, Stands, Stepped, movedBy, offAt, onTo, recorded, strideOf, striding};
 ghost use Rattle.tape.specs.Records.{headLength, headOf, recordOf};
 
 // The kinds of a reply and of an error.
@@ -177,14 +177,17 @@ fn stride(
         nvr,
         &mut buffer[written..],
     );
+    moved(place, turn, message.len())
+}
+
+// The step behind a message of so many bytes that was sent: on, or off where the device refused it.
+fn moved(place: Place, turn: Turn, size: usize) -> Step
+    requires { ⌜ Countable place (turn .answer) size ⌝ }
+    ensures { λ r. ⌜ r ≡ movedBy place (turn .session) (turn .answer) size ⌝ }
+{
     let answer = turn.answer;
     match answer {
-        Answer::Reply { length } => on(
-            place,
-            turn,
-            HEAD_LENGTH + message.len(),
-            HEAD_LENGTH + length,
-        ),
+        Answer::Reply { length } => on(place, turn, HEAD_LENGTH + size, HEAD_LENGTH + length),
         Answer::Refused { number } => Step::Off {
             last: off(place, Stop::Refused { number }),
         },

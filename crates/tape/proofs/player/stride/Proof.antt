@@ -1,4 +1,4 @@
--- `tape::player::stride` meets its contract: the code's tests are the definition's, and what the device answers picks its case.
+-- `tape::player::stride` meets its contract: where a record has room the message is sent, and the step is what comes of the answer.
 use Prim.Native.Nat.{ℕ, _+_, _-_, _≤_, _<_}
 use mathlib.Core.List.{List}
 use mathlib.Core.Path.{_≡_, sym, ap, _∙_}
@@ -11,6 +11,7 @@ use denote.Ref.{now}
 use lib.ListN.{length}
 use Rattle.tm32.specs.After.{Telling, replyRoom, tell}
 use Rattle.tm32.specs.Device.{Memory, deviceOf, memoryOf}
+use Rattle.tm32.specs.declared.Answer.the-variants.{Reply}
 use Rattle.tm32.specs.declared.Settings.{Settings}
 use Rattle.tape.specs.Play.{recordRoom}
 use Rattle.tape.specs.Promises.{offAt, strideOf, strideTo, striding}
@@ -19,7 +20,7 @@ use Rattle.tape.specs.declared.Place.{Place}
 use Rattle.tape.specs.declared.Played.{Played}
 use Rattle.tape.specs.declared.Step.the-variants.{Off}
 use Rattle.tape.specs.declared.Stop.the-variants.{Room}
-use Rattle.tape.proofs.Striding.{record-short, strides-off, strides-on}
+use Rattle.tape.proofs.Striding.{record-short, strides-moved}
 use Rattle.tape.proofs.player.stride.Statement.{statement}
 use Rattle.tape.proofs.player.stride.Tie as tie
 
@@ -63,30 +64,20 @@ module _ (c : tie.After-slice-known8) where
   abbrev got : List ℕ
   got = sends .send .last .1 .1 .1 .1 .1 .1 .0
 
-short : (c : tie.After-answer) → let at = c .before .before in place at .written + (headLength + c .answer .given .0 .0) ≤ length (buffer at)
-short c =
-    let at = c .before .before in
-    let fits = record-short (place at) (buffer at) _ _ _ _ (got at) _ (outcome at .told) _ (at .before .buffer .given .0) (c .answer .given .1) (sends at .send .ensures) in
-    omega (arith, mid-len (place at .written) _ (buffer at) (le-refl _), start at .pre .0)
+  -- a reply has room, so that it can be counted
+  short : (count : ℕ) → sends .send .result .answer ≡ Reply count → place .written + (headLength + count) ≤ length buffer
+  short count is =
+      let fits = record-short place buffer _ _ _ _ got _ (outcome .told) count (c .before .buffer .given .0) is (sends .send .ensures) in
+      omega (arith, mid-len (place .written) _ buffer (le-refl _), start .pre .0)
 
-add-on-2 : tie.Need-add-on-2
-add-on-2 c = omega (arith, short (c .before), start (c .before .before .before) .good .1 .1 .1 .1 .1 .1 .0 .0)
-
-on-requires : tie.Need-on-requires
-on-requires c κs = (start (c .before .before .before) .pre .1, omega (arith, short (c .before), start (c .before .before .before) .good .1 .1 .1 .1 .1 .1 .0 .0))
+moved-requires : tie.Need-moved-requires
+moved-requires c κs =
+    record { used = start c .pre .1; written = λ count is. omega (arith, short c count is, start c .good .1 .1 .1 .1 .1 .1 .0 .0) }
 
 returns-2 : tie.Need-returns-2
 returns-2 c =
-    let told = c .before .before in
-    let at = told .before .before in
-    strides-on (place at) (buffer at) _ _ _ _ (got at) _ (outcome at .told) _ _ _ (told .answer .given .1) (sends at .send .ensures) (c .on .ensures)
-    ∙ roomy _ (place at) _ _ (buffer at) (room at .if1 .left)
-
-returns-3 : tie.Need-returns-3
-returns-3 c =
-    let told = c .before .before in
-    let at = told .before .before in
-    strides-off (place at) (buffer at) _ _ _ _ (got at) _ (outcome at .told) _ _ _ (told .answer2 .given .1) (sends at .send .ensures) (ap Off (c .off2 .ensures))
+    let at = c .before in
+    strides-moved (place at) (buffer at) _ _ _ _ (got at) _ (outcome at .told) _ _ (sends at .send .ensures) (c .moved .ensures)
     ∙ roomy _ (place at) _ _ (buffer at) (room at .if1 .left)
 
 -- what the search finds: what calls ask that is asked here too, and that no call changes the length of a slice
@@ -101,19 +92,9 @@ stride-spec =
     (search needs)
     (search needs)
     (search needs)
-    (search needs)
-    (search needs)
-    add-on-2
-    on-requires
+    moved-requires
     (search needs)
     (search needs)
     (search needs)
     (search needs)
-    (search needs)
-    (search needs)
-    returns-2
-    (search needs)
-    (search needs)
-    (search needs)
-    (search needs)
-    returns-3)
+    returns-2)
