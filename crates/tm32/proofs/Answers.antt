@@ -15,7 +15,7 @@ use Rattle.tm32_asks.specs.Request.{crcStart}
 use Rattle.tm32.specs.Promises.{Laid, layAnswer, leaves, turnOf}
 use Rattle.tm32.specs.Respond.{Answered, answered, refuse, replyTo, respond, serve, verdictOn}
 use Rattle.tm32_asks.specs.Results.{workDone}
-use Rattle.tm32.specs.Work.{work, worked}
+use Rattle.tm32.specs.Work.{work}
 use Rattle.tm32.specs.declared.Answer.the-variants.{Refused, Reply}
 use Rattle.tm32_asks.specs.declared.Request.{Request}
 use Rattle.tm32.specs.declared.Session.{Session}
@@ -30,15 +30,6 @@ module _ (flash ram nvr : List ℕ) {turn : Turn} {after buffer : List ℕ} {ses
   answers did same =
       ap₂ (λ (one : Turn) (list : List ℕ). leaves one flash ram nvr list) (did .handed) (did .over)
       ∙ ap (layAnswer buffer) same
-
-  -- the same of the work of a request that is known
-  pub works : (settings : Settings) (device : Device) (payload : List ℕ) {request known : Request} {result : ℕ} {bytes : List ℕ}
-      → request ≡ known → Laid turn after session (frame crcStart result bytes) buffer
-      → worked result bytes (deviceOf session (memoryOf flash ram nvr)) ≡ work settings device payload known
-      → leaves turn flash ram nvr after ≡ layAnswer buffer (replyTo (work settings device payload request))
-  unfolding replyTo
-  works settings device payload named did same =
-      answers did (ap replyTo (same ∙ ap (work settings device payload) (sym named)))
 
 -- nothing laid over a buffer
 pub nothing-laid : {turn : Turn} {session : Session} (buffer : List ℕ) → turn ≡ turnOf session (Reply 0) → Laid turn buffer session [] buffer

@@ -10,6 +10,7 @@ mod pps;
 mod read;
 mod read_options;
 mod replies;
+mod results;
 mod sessions;
 mod write;
 mod write_options;

@@ -1,8 +1,8 @@
 // Memory CRC compares: the frame's own CRC over a range, against the one that was sent.
 use crate::read;
+use crate::results::WRONG_CRC;
 use tm32_asks::CRC_START;
-use tm32_asks::results::WORK_DONE;
-use tm32_asks::results::WRONG_CRC;
+use tm32_asks::WORK_DONE;
 ghost use mathlib.Core.Bool.{true};
 ghost use mathlib.Core.Path.{_≡_};
 ghost use lib.ListN.{length};

@@ -1,12 +1,12 @@
 // Write: flash loses bits, RAM and NVR take the bytes as they are.
+use crate::results::READBACK_DIFFERS;
 use memory::Programmed;
 use tm32_asks::FLASH_START;
 use tm32_asks::NVR_START;
 use tm32_asks::RAM_START;
+use tm32_asks::WORK_DONE;
 use tm32_asks::in_flash;
 use tm32_asks::in_ram;
-use tm32_asks::results::READBACK_DIFFERS;
-use tm32_asks::results::WORK_DONE;
 ghost use mathlib.Core.Bool.{cond, not, true, _&&_};
 ghost use mathlib.Core.Path.{_≡_};
 ghost use Prim.Native.Nat.{_+_, _≤_};

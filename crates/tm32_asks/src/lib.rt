@@ -4,7 +4,7 @@ mod checks;
 mod map;
 mod options;
 mod requests;
-pub mod results;
+mod results;
 
 pub use checks::is_rate;
 pub use checks::verdict;
@@ -25,6 +25,7 @@ pub use options::rdp_on;
 pub use requests::CRC_START;
 pub use requests::bytes_to_write;
 pub use requests::request_in;
+pub use results::WORK_DONE;
 
 // What the host is connected by.
 pub enum Link {
