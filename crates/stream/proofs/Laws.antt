@@ -35,7 +35,7 @@ module _ (filled : Filled) (held : ℕ) (block after : List ℕ) (did : ReadsOn 
 
 module _ (sheet : Sheet) (failed : sheet .failed ≡ true) where
   -- is written out no more
-  not-written : (taken : Bool) → writtenOut taken sheet ≡ sheet
+  pub not-written : (taken : Bool) → writtenOut taken sheet ≡ sheet
   unfolding writtenOut
   not-written taken = rw failed
 

@@ -3,12 +3,12 @@ use mathlib.Core.Bool.{true}
 use mathlib.Core.Path.{_≡_, sym}
 use borrow.Author.Needs.{needs}
 use Rattle.stream.specs.Sheets.{writtenOut}
+use Rattle.stream.proofs.Laws.{not-written}
 use Rattle.stream.proofs.Sheet.after.Statement.{statement}
 use Rattle.stream.proofs.Sheet.after.Tie as tie
 
 returns : tie.Need-returns
-unfolding writtenOut
-returns c = record { taken = true; same = simp (c .if1 .taken) }
+returns c = record { taken = true; same = sym (not-written _ (c .if1 .taken) true) }
 
 write-all-requires : tie.Need-write-all-requires
 write-all-requires c κs = search needs
