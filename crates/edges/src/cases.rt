@@ -41,7 +41,7 @@ fn obeyed(
     let mut room = io::buffer();
     let line = lines::line_in(text, &mut room);
     report::words(bench.open, line.kind, text);
-    let message = lines::first(&room, line.length);
+    let message = stream::first(&room, line.length);
     step(bench.set_up(line), line, message, flash, ram, nvr, buffer)
 }
 

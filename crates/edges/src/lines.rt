@@ -39,7 +39,7 @@ pub(crate) struct Line {
 // Takes a line apart, and puts its message into a room: the handshake where the line has none.
 pub(crate) fn line_in(text: &[u8], room: &mut [u8]) -> Line {
     let kind = letter_at(text, 0);
-    let body = behind(text, 2);
+    let body = stream::behind(text, 2);
     let gap = bytes::scan::find(body, 0, body.len(), b' ');
     let first = &body[0..gap];
     let second = &body[gap..];
@@ -61,14 +61,6 @@ fn letter_at(text: &[u8], place: usize) -> u8 {
         return b' ';
     }
     text[place]
-}
-
-// What stands from a place on.
-pub(crate) fn behind(text: &[u8], place: usize) -> &[u8] {
-    if text.len() < place {
-        return &text[0..0];
-    }
-    &text[place..]
 }
 
 impl Line {
@@ -116,7 +108,7 @@ fn message_in(kind: u8, body: &[u8], room: &mut [u8]) -> Bytes {
 fn framed_in(body: &[u8], room: &mut [u8]) -> Bytes {
     let mut told = io::buffer();
     match hex::bytes_in(body, &mut told) {
-        Bytes::Told { count } => framed(first(&told, count), room),
+        Bytes::Told { count } => framed(stream::first(&told, count), room),
         Bytes::Wrong => Bytes::Wrong,
     }
 }
@@ -130,12 +122,4 @@ fn framed(told: &[u8], room: &mut [u8]) -> Bytes {
         Written::Frame(length) => Bytes::Told { count: length },
         _ => Bytes::Wrong,
     }
-}
-
-// So many bytes from the start, and all where there are fewer.
-pub(crate) fn first(bytes: &[u8], count: usize) -> &[u8] {
-    if bytes.len() < count {
-        return bytes;
-    }
-    &bytes[0..count]
 }

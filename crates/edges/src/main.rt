@@ -1,5 +1,5 @@
-// Runs the worked cases of document 01 and prints a line for each: the case in words, then what came of it.
-// The cases of the device stand in the file `stdin` beside src/, and what is right in `stdout`.
+// Runs the worked cases of document 01 on the device and prints a line for each: the case in words, then what came of it.
+// The cases stand in the file `stdin` beside src/, and what is right in `stdout`.
 mod bench;
 mod cases;
 mod hex;
@@ -7,32 +7,15 @@ mod input;
 mod lines;
 mod report;
 mod show;
-mod spoiled;
-mod tally;
-mod wire;
 
 use input::Input;
 ghost use mathlib.Core.Path.{_≡_};
 ghost use lib.ListN.{length};
 
 fn main() {
-    wire::sums();
-    wire::printed([0x2D, 0x41, 0x00, 0x00, 0x55, 0x24]);
-    wire::printed([0x2D, 0x90, 0x00, 0x00, 0xF1, 0x76]);
-    wire::printed([0x2D, 0x80, 0x00, 0x00, 0x92, 0x35]);
-    wire::other_start();
-    wire::with_data();
-    wire::rooms();
-    wire::longest();
-    wire::too_long();
-    device();
-}
-
-// The cases that stand in standard input.
-fn device() {
     let mut block = io::large_buffer();
     match input::read_all(&mut block) {
-        Input::Whole { length } => on_memory(lines::first(&block, length)),
+        Input::Whole { length } => on_memory(stream::first(&block, length)),
         Input::TooLong => show::text(b"There are too many cases.\n"),
         Input::Failed => show::text(b"The cases could not be read.\n"),
     }

@@ -11,7 +11,7 @@ use tm32_asks::Link;
 pub(crate) fn words(open: bool, kind: u8, text: &[u8]) {
     match kind {
         lines::HEADING => new_line(open, text, b"\n"),
-        lines::CASE => new_line(open, lines::behind(text, 2), b":"),
+        lines::CASE => new_line(open, stream::behind(text, 2), b":"),
         lines::WRONG => new_line(open, text, b" is not understood.\n"),
         _ => {}
     }
@@ -43,7 +43,7 @@ pub(crate) fn sent(bench: Bench, line: Line, message: &[u8], buffer: &[u8]) -> B
         show::text(b"no reply, refusal ");
         show::number(bench.refusal as u64);
     } else {
-        show::runs(lines::first(buffer, bench.length));
+        show::runs(stream::first(buffer, bench.length));
     }
     show::text(b"\n");
     bench.closed()
@@ -101,11 +101,11 @@ pub(crate) fn part_of<'a>(
 }
 
 fn part(memory: &[u8], place: usize, count: usize) -> &[u8] {
-    let rest = lines::behind(memory, place);
+    let rest = stream::behind(memory, place);
     if rest.len() < count {
         return &memory[0..0];
     }
-    lines::first(rest, count)
+    stream::first(rest, count)
 }
 
 fn session_line(session: Session) {

@@ -1,6 +1,4 @@
 // Words, numbers and bytes on standard output.
-use frame::Reading;
-use frame::Written;
 use libc::STDOUT_FILENO;
 ghost use Prim.Native.Nat.{_+_, _<_, _≤_};
 ghost use lib.ListN.{length};
@@ -79,60 +77,9 @@ fn end_of_run(list: &[u8], place: usize) -> usize
     end
 }
 
-// Bytes as 01 prints them, with a space between two.
-pub(crate) fn bytes(list: &[u8]) {
-    if list.len() == 0 {
-        text(b"none");
-        return;
-    }
-    let mut i = 0;
-    while i < list.len() {
-        byte_at(i, list[i]);
-        i += 1;
-    }
-}
-
 fn byte_at(place: usize, value: u8) {
     if 0 < place {
         text(b" ");
     }
     byte(value);
-}
-
-pub(crate) fn reading(answer: Reading) {
-    match answer {
-        Reading::Sound { second, length } => {
-            text(b"sound, second byte ");
-            byte(second);
-            text(b", data length ");
-            number(length as u64);
-        }
-        Reading::Spoiled { place } => {
-            text(b"spoiled at ");
-            number(place as u64);
-        }
-    }
-}
-
-// The data of a sound frame. A spoiled one has none to show.
-pub(crate) fn data(answer: Reading, message: &[u8]) {
-    if let Reading::Sound {
-        second: _,
-        length: _,
-    } = answer {
-        text(b"; data: ");
-        bytes(frame::data_of(message));
-    }
-}
-
-pub(crate) fn written(answer: Written) {
-    match answer {
-        Written::Frame(length) => {
-            text(b"written, ");
-            number(length as u64);
-            text(b" bytes");
-        }
-        Written::TooLong => text(b"refused, the data is too long"),
-        Written::NoRoom => text(b"refused, no room"),
-    }
 }

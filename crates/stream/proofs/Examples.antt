@@ -6,7 +6,7 @@ use mathlib.Core.Logic.{_≢_}
 use mathlib.Core.Path.{_≡_, ap}
 use native.Mathlib.Omega.{arith}
 use lib.Dec.{eqb}
-use lib.ListN.{length, getD}
+use lib.ListN.{drop, length, getD, take}
 use Rattle.stream.specs.Sheets.{Adds, AddsAll, Collected, WritesOut, allMore, collected, emptySheet, oneMore, puttingOn, sheetOf, withRoom, writtenOut}
 use Rattle.stream.specs.declared.Sheet.{Sheet}
 
@@ -48,3 +48,19 @@ turned-round (one ∷ other ∷ third ∷ rest) two is = omega arith
 
 last-byte-first : AddsAll emptySheet (0x00 ∷ 0x00 ∷ []) (0x11 ∷ 0x22 ∷ []) (sheetOf 2 false) (0x22 ∷ 0x11 ∷ []) → ⊥
 last-byte-first adds = turned-round (adds .answers) (adds .one-each) (adds .same)
+
+-- first: one byte more than was asked for
+one-byte-more : take {A = ℕ} 2 (0x11 ∷ 0x22 ∷ 0x33 ∷ []) ≢ 0x11 ∷ 0x22 ∷ 0x33 ∷ []
+one-byte-more is = true≢false (ap (λ (bytes : List ℕ). eqb (length bytes) 2) is)
+
+-- first: nothing where there are fewer
+nothing-where-fewer : take {A = ℕ} 4 (0x11 ∷ []) ≢ []
+nothing-where-fewer is = true≢false (ap (λ (bytes : List ℕ). eqb (length bytes) 1) is)
+
+-- behind: the byte at the place is left out
+byte-left-out : drop {A = ℕ} 1 (0x11 ∷ 0x22 ∷ []) ≢ []
+byte-left-out is = true≢false (ap (λ (bytes : List ℕ). eqb (length bytes) 1) is)
+
+-- behind: all of it where the place lies past the end
+all-past-the-end : drop {A = ℕ} 2 (0x11 ∷ []) ≢ 0x11 ∷ []
+all-past-the-end is = true≢false (ap (λ (bytes : List ℕ). eqb (length bytes) 0) is)

@@ -1,9 +1,12 @@
 // What the programs read and write by: a block that standard input is read into piece by piece, and a sheet on which what goes to
 // standard output is collected.
 mod blocks;
+mod parts;
 mod sheets;
 
 pub use blocks::fill;
+pub use parts::behind;
+pub use parts::first;
 
 // What came of reading on.
 pub enum Filled {

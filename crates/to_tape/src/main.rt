@@ -64,13 +64,25 @@ fn read_on(
     let before = place.held;
     match stream::fill(block, before) {
         Filled::More { held } => {
-            match lines::whole(first(block, held), place.number, scratch, message, paper) {
+            match lines::whole(
+                stream::first(block, held),
+                place.number,
+                scratch,
+                message,
+                paper,
+            ) {
                 Passed::On { used, number } => on(block, used, held, number),
                 Passed::Off => Turn::Off,
             }
         }
         Filled::End => {
-            lines::last(first(block, before), place.number, scratch, message, paper);
+            lines::last(
+                stream::first(block, before),
+                place.number,
+                scratch,
+                message,
+                paper,
+            );
             Turn::Off
         }
         Filled::Full => {
@@ -82,14 +94,6 @@ fn read_on(
             Turn::Off
         }
     }
-}
-
-// What the block holds. Read off the block, so that nobody has to know that it holds no more than it has room for.
-fn first(block: &[u8], held: usize) -> &[u8] {
-    if block.len() < held {
-        return block;
-    }
-    &block[0..held]
 }
 
 // What is left of the block is kept for the next read.

@@ -52,27 +52,19 @@ fn run(block: &mut [u8], paper: &mut [u8]) {
 // One read, and the records that it brings.
 fn read_on(before: usize, block: &mut [u8], paper: &mut [u8]) -> Turn {
     match stream::fill(block, before) {
-        Filled::More { held } => match records::whole(first(block, held), paper) {
+        Filled::More { held } => match records::whole(stream::first(block, held), paper) {
             Passed::On { used } => Turn::On {
                 held: tape::keep_rest(block, used, held),
             },
             Passed::Off => Turn::Off,
         },
         Filled::End => {
-            records::end(first(block, before), paper);
+            records::end(stream::first(block, before), paper);
             Turn::Off
         }
         Filled::Full => told(b"a record is longer than the block\n"),
         Filled::Failed => told(b"the tape cannot be read\n"),
     }
-}
-
-// What the block holds. Read off the block, so that nobody has to know that it holds no more than it has room for.
-fn first(block: &[u8], held: usize) -> &[u8] {
-    if block.len() < held {
-        return block;
-    }
-    &block[0..held]
 }
 
 fn told(what: &[u8]) -> Turn {

@@ -1,5 +1,4 @@
 // Frames on the wire: 01, "A message and its reply".
-use crate::lines;
 use crate::show;
 use crate::spoiled::Way;
 use crate::spoiled::tried;
@@ -79,11 +78,11 @@ pub(crate) fn longest() {
 
 fn long_frame(payload: &[u8], buffer: &mut [u8]) {
     show::text(b"65535 bytes of data: ");
-    show::written(frame::write(CRC_START, 0x12, lines::first(payload, 65535), buffer));
+    show::written(frame::write(CRC_START, 0x12, stream::first(payload, 65535), buffer));
     show::text(b"; from byte 65538 on: ");
-    show::bytes(lines::behind(buffer, 65538));
+    show::bytes(stream::behind(buffer, 65538));
     show::text(b"; read: ");
-    show::reading(frame::read(CRC_START, lines::first(buffer, 65541)));
+    show::reading(frame::read(CRC_START, stream::first(buffer, 65541)));
     show::text(b"\n");
 }
 

@@ -1,8 +1,8 @@
--- `edges::wire::changed_bytes` ends at the sixth byte.
+-- `frame_cases::wire::changed_bytes` ends at the sixth byte.
 use Prim.Native.Nat.{_-_, _≤_}
 use borrow.Author.Needs.{needs}
-use Rattle.edges.proofs.wire.changed_bytes.Statement.{statement}
-use Rattle.edges.proofs.wire.changed_bytes.Tie as tie
+use Rattle.frame_cases.proofs.wire.changed_bytes.Statement.{statement}
+use Rattle.frame_cases.proofs.wire.changed_bytes.Tie as tie
 
 abbrev Inv-loop : tie.InvT-loop
 Inv-loop frame place₀ place = place ≤ 6

@@ -1,9 +1,9 @@
--- `edges::wire::other_than` reads only within the slice, and ends at its end.
+-- `frame_cases::wire::other_than` reads only within the slice, and ends at its end.
 use Prim.Native.Nat.{_-_, _≤_}
 use lib.ListN.{length}
 use borrow.Author.Needs.{needs}
-use Rattle.edges.proofs.wire.other_than.Statement.{statement}
-use Rattle.edges.proofs.wire.other_than.Tie as tie
+use Rattle.frame_cases.proofs.wire.other_than.Statement.{statement}
+use Rattle.frame_cases.proofs.wire.other_than.Tie as tie
 
 abbrev Inv-loop : tie.InvT-loop
 Inv-loop buffer fill count₀ i₀ count i = i ≤ length buffer

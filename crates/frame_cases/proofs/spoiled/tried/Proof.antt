@@ -1,7 +1,7 @@
--- `edges::spoiled::tried` ends: each turn leaves one number less.
+-- `frame_cases::spoiled::tried` ends: each turn leaves one number less.
 use borrow.Author.Needs.{needs}
-use Rattle.edges.proofs.spoiled.tried.Statement.{statement}
-use Rattle.edges.proofs.spoiled.tried.Tie as tie
+use Rattle.frame_cases.proofs.spoiled.tried.Statement.{statement}
+use Rattle.frame_cases.proofs.spoiled.tried.Tie as tie
 
 abbrev Inv-loop : tie.InvT-loop
 Inv-loop frame way most tally₀ left₀ tally left = Unit

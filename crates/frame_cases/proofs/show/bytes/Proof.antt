@@ -1,9 +1,9 @@
--- `edges::show::bytes` reads only within the slice, and ends at its end.
+-- `frame_cases::show::bytes` reads only within the slice, and ends at its end.
 use Prim.Native.Nat.{_-_, _≤_}
 use lib.ListN.{length}
 use borrow.Author.Needs.{needs}
-use Rattle.edges.proofs.show.bytes.Statement.{statement}
-use Rattle.edges.proofs.show.bytes.Tie as tie
+use Rattle.frame_cases.proofs.show.bytes.Statement.{statement}
+use Rattle.frame_cases.proofs.show.bytes.Tie as tie
 
 abbrev Inv-loop : tie.InvT-loop
 Inv-loop list i₀ i = i ≤ length list
