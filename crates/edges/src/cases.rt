@@ -13,10 +13,10 @@ const UNTOUCHED: u8 = 0xEE;
 // All lines of a text.
 pub(crate) fn run(
     text: &[u8],
-    flash: &mut [u8],
-    ram: &mut [u8],
-    nvr: &mut [u8],
-    buffer: &mut [u8],
+    flash: &mut [u8; 32769],
+    ram: &mut [u8; 9217],
+    nvr: &mut [u8; 6145],
+    buffer: &mut [u8; 1031],
 ) {
     let mut bench = Bench::new(false);
     let mut at = 0;
@@ -33,10 +33,10 @@ pub(crate) fn run(
 fn obeyed(
     bench: Bench,
     text: &[u8],
-    flash: &mut [u8],
-    ram: &mut [u8],
-    nvr: &mut [u8],
-    buffer: &mut [u8],
+    flash: &mut [u8; 32769],
+    ram: &mut [u8; 9217],
+    nvr: &mut [u8; 6145],
+    buffer: &mut [u8; 1031],
 ) -> Bench {
     let mut room = io::buffer();
     let line = lines::line_in(text, &mut room);
@@ -50,13 +50,14 @@ fn step(
     bench: Bench,
     line: Line,
     message: &[u8],
-    flash: &mut [u8],
-    ram: &mut [u8],
-    nvr: &mut [u8],
-    buffer: &mut [u8],
+    flash: &mut [u8; 32769],
+    ram: &mut [u8; 9217],
+    nvr: &mut [u8; 6145],
+    buffer: &mut [u8; 1031],
 ) -> Bench {
     if line.sends() {
-        memory::fill(buffer, 0, buffer.len(), UNTOUCHED);
+        let room = buffer.len();
+        memory::fill(buffer, 0, room, UNTOUCHED);
         let next = lent(
             bench,
             line.kind == lines::CASE,
