@@ -3,12 +3,12 @@ use crate::lines;
 use crate::lines::Line;
 use tm32::Answer;
 use tm32::FLASH_LENGTH;
+use tm32::Link;
 use tm32::NVR_LENGTH;
 use tm32::RAM_LENGTH;
 use tm32::REPLY_ROOM;
 use tm32::Session;
 use tm32::Turn;
-use tm32_asks::Link;
 
 pub(crate) struct Bench {
     pub session: Session,

@@ -3,9 +3,9 @@ use crate::bench::Bench;
 use crate::lines;
 use crate::lines::Line;
 use crate::show;
+use tm32::Link;
 use tm32::Session;
 use tm32::State;
-use tm32_asks::Link;
 
 // A heading, a case in words, or a line that is not understood: each on a new line.
 pub(crate) fn words(open: bool, kind: u8, text: &[u8]) {

@@ -1,11 +1,11 @@
 // The device that a tape starts on: 01, "The bench tape".
 use crate::Begun;
 use tm32::FLASH_LENGTH;
+use tm32::Link;
 use tm32::NVR_LENGTH;
 use tm32::RAM_LENGTH;
 use tm32::Session;
 use tm32::Settings;
-use tm32_asks::Link;
 ghost use mathlib.Core.Path.{_≡_};
 ghost use Prim.Native.Nat.{_≤_};
 ghost use lib.ListN.{length};

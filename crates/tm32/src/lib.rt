@@ -15,10 +15,10 @@ mod sessions;
 mod write;
 mod write_options;
 
-// How long the memory is that is lent for a message, and the reply buffer at least.
+// What the host is connected by; how long the memory is that is lent for a message, and the reply buffer at least.
 pub use device::REPLY_ROOM;
 pub use tm32_asks::FLASH_LENGTH;
-use tm32_asks::Link;
+pub use tm32_asks::Link;
 pub use tm32_asks::NVR_LENGTH;
 pub use tm32_asks::RAM_LENGTH;
 
