@@ -3,11 +3,12 @@ use mathlib.Core.Path.{_≡_, refl}
 use mathlib.Core.List.{List, [], _∷_, _++_}
 use lib.ListN.{replicate}
 use Rattle.frame.specs.Crc.{bitDone, bitsDone, byteDone, crc, polynomial, shifted}
-use Rattle.frame.specs.Frame.{covered, dataOf, frame, reading, word, wordAt}
+use Rattle.frame.specs.Frame.{covered, dataOf, frame, laid, reading, word, wordAt}
 use Rattle.memory.specs.Pages.{covers, somePage, someFrom, touched}
 use Rattle.memory.specs.Ranges.{within}
 use Rattle.memory.specs.Stores.{kept, masked, part, replaced, same}
 use Rattle.tm32_asks.specs.Checks.{checks, flashPages, protections, readChecks, verdict, writeChecks}
+use Rattle.tm32.specs.After.{after, callChecks, lay, tell}
 use Rattle.tm32.specs.Device.{bytesAt, sessionOf, start, withSession}
 use Rattle.tm32.specs.Fresh.{freshDevice, freshFlash, freshNvr, freshOptions, freshRam, freshSettings}
 use Rattle.tm32_asks.specs.Map.{inReadRegion, inUserRegion}
@@ -15,7 +16,7 @@ use Rattle.tm32_asks.specs.Numbers.{fromOneTo, long, longAt}
 use Rattle.tm32_asks.specs.Options.{inEither, optionBytes, rdpOn}
 use Rattle.tm32_asks.specs.Request.{exactly, readAs, requestIn, requestOf, writeIn}
 use Rattle.tm32.specs.Respond.{greet, refuse, replyTo, respond, serve, verdictOn}
-use Rattle.tm32.specs.Work.{commandWord, compared, erased, information, readback, toldCommands, wiped, wipes, withOptions, work, written}
+use Rattle.tm32.specs.Work.{commandWord, compared, erased, information, programmedResult, readback, toldCommands, wiped, wipes, withOptions, work, written}
 use Rattle.tm32_asks.specs.declared.Link.the-variants.{Spi}
 use Rattle.tm32.specs.declared.State.the-variants.{Talking, Gone}
 use Rattle.cases.specs.Cases.{Case, atCode, blankBeside, blankDevice, blankFlash, case, computed, expected, filled, fresh, fullDevice, fullFlash, onBench, pcrop5, pcrop5wrp7, prepared, put, rdp, wrp7}
@@ -57,10 +58,11 @@ moreBounds =
     ∷ fresh [] (askWrite 0 0x08000400 []) (hex 6 0x2DF20000FA83) (blankDevice off)
     ∷ fresh [] (askMemoryCrc 0x20001C00 0 0x0000) (hex 6 0x2DF20000FA83) (blankDevice off)
     ∷ fresh [] (askMemoryCrc 0x20001C00 1025 0x0000) done (blankDevice off)
-    -- Page count: 0, 32 and 33.
+    -- Page count: 0, 32 and 33, and 33 from the last page on.
     ∷ filled [] (askErase 0 0) (hex 6 0x2DF30000CAB4) (fullDevice off)
     ∷ filled [] (askErase 0 32) done (blankDevice off)
     ∷ filled [] (askErase 0 33) (hex 6 0x2DF30000CAB4) (fullDevice off)
+    ∷ filled [] (askErase 31 33) (hex 6 0x2DF30000CAB4) (fullDevice off)
     -- Address: the last place to jump to in RAM, and one byte further.
     ∷ fresh [] (askGo 0x20003FF8) done (onBench (Gone 0x20003FF8) blankFlash off)
     ∷ fresh [] (askGo 0x20003FF9) (hex 6 0x2DF10000AADA) (blankDevice off)
@@ -78,5 +80,5 @@ boundCases = otherCommands ++ moreBounds
 
 -- All of them hold.
 pub bounds-hold : computed boundCases ≡ expected boundCases
-unfolding computed expected prepared hex little message halfwords options boundCases otherCommands moreBounds respond greet serve replyTo verdictOn refuse frame covered word crc byteDone bitsDone bitDone shifted polynomial reading wordAt dataOf requestIn readAs requestOf writeIn exactly longAt checks verdict protections readChecks writeChecks flashPages somePage someFrom covers touched within inReadRegion inUserRegion bytesAt part replaced masked kept same rdpOn inEither optionBytes erased wipes wiped withOptions work written readback compared information long commandWord toldCommands freshDevice freshFlash freshRam freshNvr freshOptions freshSettings fromOneTo
+unfolding computed expected prepared hex little message halfwords options boundCases otherCommands moreBounds after tell callChecks lay laid respond greet serve replyTo verdictOn refuse frame covered word crc byteDone bitsDone bitDone shifted polynomial reading wordAt dataOf requestIn readAs requestOf writeIn exactly longAt checks verdict protections readChecks writeChecks flashPages somePage someFrom covers touched within inReadRegion inUserRegion bytesAt part replaced masked kept same rdpOn inEither optionBytes erased wipes wiped withOptions work written readback programmedResult compared information long commandWord toldCommands freshDevice freshFlash freshRam freshNvr freshOptions freshSettings fromOneTo
 bounds-hold = refl

@@ -1,11 +1,12 @@
 -- A worked case: what is sent to which device, and all that must come of it. And the devices and option bytes that the cases start on and end with, put together here apart from the
 -- definitions under trial; only the fresh device is theirs, and the first cases hold it to a list that is put together here.
-use Prim.Native.Nat.{ℕ}
+use Prim.Native.Nat.{ℕ, _-_}
 use mathlib.Core.List.{List, [], _∷_, _++_}
-use lib.ListN.{replicate}
+use lib.ListN.{length, replicate}
+use Rattle.tm32.specs.After.{After, after, afterOf}
 use Rattle.tm32.specs.Device.{Device, deviceOf, memoryOf, sessionOf, withSession}
 use Rattle.tm32.specs.Fresh.{freshDevice, freshSettings}
-use Rattle.tm32.specs.Respond.{Answered, answered, respond}
+use Rattle.tm32.specs.declared.Answer.the-variants.{Reply}
 use Rattle.tm32_asks.specs.declared.Link.the-variants.{Uart}
 use Rattle.tm32.specs.declared.State.{State}
 use Rattle.tm32.specs.declared.State.the-variants.{Talking, Waiting}
@@ -23,19 +24,31 @@ pub record Case : Type 0 where
 abbrev pub case : Device → List (List ℕ) → List ℕ → List ℕ → Device → Case
 case device before message reply after = record { device = device; before = before; message = message; reply = reply; after = after }
 
+-- The buffer that is lent for each reply: so long, and full of one byte.
+abbrev pub lentLength : ℕ
+lentLength = 1040
+
+abbrev pub lentByte : ℕ
+lentByte = 0x11
+
+abbrev pub lentBuffer : List ℕ
+lentBuffer = replicate lentLength lentByte
+
 -- A device after some messages.
 unfoldable pub prepared : Device → List (List ℕ) → Device
 prepared device [] = device
-prepared device (message ∷ rest) = prepared (respond freshSettings device message .device) rest
+prepared device (message ∷ rest) = prepared (after freshSettings device message lentBuffer .device) rest
 
--- What the definitions make of each case, and what is right.
-unfoldable pub computed : List Case → List Answered
+-- What the definitions make of each case: `after`, with which the contract of the device's code is an equation.
+unfoldable pub computed : List Case → List After
 computed [] = []
-computed (one ∷ rest) = respond freshSettings (prepared (one .device) (one .before)) (one .message) ∷ computed rest
+computed (one ∷ rest) = after freshSettings (prepared (one .device) (one .before)) (one .message) lentBuffer ∷ computed rest
 
-unfoldable pub expected : List Case → List Answered
+-- What is right: the whole device, the length of the reply, and the whole buffer, in which nothing changed behind the reply.
+unfoldable pub expected : List Case → List After
 expected [] = []
-expected (one ∷ rest) = answered (one .after) (one .reply) ∷ expected rest
+expected (one ∷ rest) =
+    afterOf (one .after) (Reply (length (one .reply))) (one .reply ++ replicate (lentLength - length (one .reply)) lentByte) ∷ expected rest
 
 -- A device on UART at rate code 0x0A, with RAM all nought, in a state, with a flash, and with option bytes in an NVR that is nought otherwise.
 abbrev pub onBench : State → List ℕ → List ℕ → Device

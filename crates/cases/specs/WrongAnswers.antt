@@ -156,6 +156,11 @@ pub answer-clears-the-rest : after freshSettings freshDevice handshake (replicat
 unfolding hex after lay laid tell callChecks verdict respond greet same freshDevice freshFlash freshRam freshNvr freshOptions replaced word fromOneTo
 answer-clears-the-rest is = true≢false (ap (λ (buffer : List ℕ). eqb (getD buffer 1 0) 0x11) is)
 
+-- answer: the handshake is answered, and the session goes on Waiting
+pub handshake-keeps-waiting : after freshSettings freshDevice handshake (replicate 1040 0x11) .device ≢ freshDevice
+unfolding hex after lay tell callChecks verdict respond greet same freshDevice freshFlash freshRam freshNvr freshOptions replaced word fromOneTo
+handshake-keeps-waiting is = false≢true (ap (λ (device : Device). isWaiting (device .session .state)) is)
+
 -- start: ready for frames before the handshake
 pub start-talks-at-once : start Uart ≢ sessionOf Talking Uart 0x0A
 start-talks-at-once is = true≢false (ap (λ (session : Session). isWaiting (session .state)) is)
@@ -214,18 +219,18 @@ wipe-spares-protected is = true≢false is
 pub free-part-written :
     respond freshSettings (prepared (onBench Waiting (fullFlash 0x0F) off) (handshake ∷ askWriteOptions wrp7 ∷ [])) (askWrite 0 0x08001BFF (0x00 ∷ 0x00 ∷ [])) .device
     ≢ onBench Talking (replicate 1024 0x5A ++ 0x0F ∷ replicate 4094 0x5A ++ 0x44 ∷ replicate 2047 0x5A ++ 0x00 ∷ replicate 25599 0x5A ++ 0x3C ∷ []) wrp7
-unfolding prepared hex little message halfwords options respond greet serve replyTo verdictOn refuse frame covered word crc byteDone bitsDone bitDone shifted polynomial reading wordAt dataOf requestIn readAs requestOf writeIn exactly longAt checks verdict protections writeChecks flashPages somePage someFrom covers touched within inUserRegion part replaced same rdpOn inEither optionBytes wipes wiped withOptions work fromOneTo
+unfolding prepared hex little message halfwords options after tell callChecks lay respond greet serve replyTo verdictOn refuse frame covered word crc byteDone bitsDone bitDone shifted polynomial reading wordAt dataOf requestIn readAs requestOf writeIn exactly longAt checks verdict protections writeChecks flashPages somePage someFrom covers touched within inUserRegion part replaced same rdpOn inEither optionBytes wipes wiped withOptions work fromOneTo
 free-part-written is = true≢false (ap (λ (device : Device). eqb (getD (device .memory .flash) 7167 0) 0x5A) is)
 
 -- a Read that ends in a page under PCROP: it is answered with data, as from blank flash
 pub protected-page-read-as-blank :
     respond freshSettings (prepared freshDevice (handshake ∷ askWriteOptions pcrop5 ∷ [])) (askRead 0x080013FF 2) .reply ≢ hex 8 0x2D900200FFFFA6AD
-unfolding prepared hex little message halfwords options respond greet serve replyTo verdictOn refuse frame covered word crc byteDone bitsDone bitDone shifted polynomial reading wordAt dataOf requestIn readAs requestOf exactly longAt checks verdict protections readChecks flashPages somePage someFrom covers touched within inReadRegion part replaced same rdpOn inEither optionBytes wipes wiped withOptions work freshDevice freshFlash freshRam freshNvr freshOptions fromOneTo
+unfolding prepared hex little message halfwords options after tell callChecks lay respond greet serve replyTo verdictOn refuse frame covered word crc byteDone bitsDone bitDone shifted polynomial reading wordAt dataOf requestIn readAs requestOf exactly longAt checks verdict protections readChecks flashPages somePage someFrom covers touched within inReadRegion part replaced same rdpOn inEither optionBytes wipes wiped withOptions work freshDevice freshFlash freshRam freshNvr freshOptions fromOneTo
 protected-page-read-as-blank is = true≢false (ap (same (hex 6 0x2D630000F3CC)) is)
 
 -- options that take read protection away: the page under write protection is not wiped
 pub protected-page-spared :
     respond freshSettings (prepared (onBench Waiting (fullFlash 0x0F) off) (handshake ∷ askWriteOptions rdpWrp7 ∷ [])) (askWriteOptions wrp7) .device
     ≢ onBench Talking (replicate 7168 0xFF ++ replicate 1024 0x5A ++ replicate 24576 0xFF) wrp7
-unfolding prepared hex little message halfwords options respond greet serve replyTo verdictOn frame covered word crc byteDone bitsDone bitDone shifted polynomial reading wordAt dataOf requestIn readAs requestOf exactly checks verdict protections part replaced same rdpOn optionBytes erased wipes wiped withOptions work
+unfolding prepared hex little message halfwords options after tell callChecks lay respond greet serve replyTo verdictOn frame covered word crc byteDone bitsDone bitDone shifted polynomial reading wordAt dataOf requestIn readAs requestOf exactly checks verdict protections part replaced same rdpOn optionBytes erased wipes wiped withOptions work fromOneTo
 protected-page-spared is = true≢false (ap (λ (device : Device). eqb (getD (device .memory .flash) 7168 0) 0xFF) is)

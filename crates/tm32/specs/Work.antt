@@ -6,12 +6,14 @@ use lib.Dec.{eqb}
 use lib.ListN.{length, drop, replicate}
 use Rattle.frame.specs.Crc.{crc}
 use Rattle.memory.specs.Stores.{kept, replaced, same}
+use Rattle.memory.specs.declared.Programmed.{Programmed}
+use Rattle.memory.specs.declared.Programmed.the-variants.{AsGiven, Differs, Outside}
 use Rattle.tm32.specs.Device.{Device, Memory, atRate, bytesAt, inState, memoryOf, withFlash, withMemory, withNvr, withRam, withSession}
 use Rattle.tm32_asks.specs.Request.{crcStart}
 use Rattle.tm32_asks.specs.Map.{blank, flashStart, inFlash, inRam, nvrStart, optionsStart, pageCount, pageSize, ramStart}
 use Rattle.tm32_asks.specs.Numbers.{long}
 use Rattle.tm32_asks.specs.Options.{optionBytes, rdpOn}
-use Rattle.tm32_asks.specs.Results.{readbackDiffers, workDone, wrongShape, wrongCrc}
+use Rattle.tm32_asks.specs.Results.{readbackDiffers, workDone, wrongAddress, wrongShape, wrongCrc}
 use Rattle.tm32_asks.specs.declared.Request.{Request}
 use Rattle.tm32_asks.specs.declared.Request.the-variants.{Pps, Get, Read, Write, MemoryCrc, Erase, Go, WriteOptions, ReadOptions, HeartBeat, Misshapen}
 use Rattle.tm32.specs.declared.Settings.{Settings}
@@ -70,10 +72,16 @@ written memory address bytes =
     (cond (inRam address (length bytes)) (withRam memory (replaced (memory .ram) (address - ramStart) bytes))
     (withNvr memory (replaced (memory .nvr) (address - nvrStart) bytes)))
 
--- The result of a write: with flag 1, whether each byte is now what was sent. What was written stays either way.
+-- What the answer of programming comes to in 01's numbers, for a write with a flag: where some byte is not what was sent, flag 1 is told so. What was written stays either way. Bytes that reach past the
+-- flash would be at a wrong address; the checks let none of them through.
+unfoldable pub programmedResult : ℕ → Programmed → ℕ
+programmedResult flag AsGiven = workDone
+programmedResult flag Differs = cond (eqb flag 1) readbackDiffers workDone
+programmedResult flag Outside = wrongAddress
+
+-- The result of a write, by whether each byte is now what was sent.
 unfoldable pub readback : ℕ → ℕ → List ℕ → Memory → ℕ
-readback flag address bytes after =
-    cond (eqb flag 1 && not (same (bytesAt after address (length bytes)) bytes)) readbackDiffers workDone
+readback flag address bytes after = programmedResult flag (cond (same (bytesAt after address (length bytes)) bytes) AsGiven Differs)
 
 -- Memory CRC: the frame's own CRC over the range, against the one that was sent.
 unfoldable pub compared : Memory → ℕ → ℕ → ℕ → ℕ

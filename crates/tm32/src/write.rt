@@ -5,19 +5,18 @@ use tm32_asks::FLASH_START;
 use tm32_asks::NVR_START;
 use tm32_asks::RAM_START;
 use tm32_asks::WORK_DONE;
+use tm32_asks::WRONG_ADDRESS;
 use tm32_asks::in_flash;
 use tm32_asks::in_ram;
-ghost use mathlib.Core.Bool.{cond, not, true, _&&_};
+ghost use mathlib.Core.Bool.{true};
 ghost use mathlib.Core.Path.{_≡_};
-ghost use Prim.Native.Nat.{_+_, _≤_};
-ghost use lib.Dec.{eqb};
+ghost use Prim.Native.Nat.{_≤_};
 ghost use lib.ListN.{length};
-ghost use Rattle.memory.specs.Stores.{kept, replaced, same};
+ghost use Rattle.memory.specs.Stores.{programming};
 ghost use Rattle.tm32_asks.specs.Checks.{mostBytes};
 ghost use Rattle.tm32.specs.Device.{memoryOf};
 ghost use Rattle.tm32_asks.specs.Map.{flashLength, inUserRegion, nvrLength, ramLength};
-ghost use Rattle.tm32_asks.specs.Results.{readbackDiffers, workDone};
-ghost use Rattle.tm32.specs.Work.{readback, written};
+ghost use Rattle.tm32.specs.Work.{programmedResult, readback, written};
 
 // Writes bytes, and gives the result. RAM and NVR always read back as they were sent.
 pub(crate) fn work(
@@ -50,12 +49,10 @@ pub(crate) fn work(
     WORK_DONE
 }
 
-// Programs bytes of the flash. Where a byte is not as it was sent, the result says so to a host that asked with flag 1.
+// Programs bytes of the flash, and gives 01's number for what came of it.
 fn program(flash: &mut [u8], place: usize, flag: u8, bytes: &[u8]) -> u8
-    requires { ⌜ place + length (now bytes) ≤ length (now flash) ⌝ }
-    ensures { λ r. ⌜ (now (flash .exit) ≡ replaced (now (flash .entry)) place (kept (now (flash .entry)) place (now (bytes .entry))))
-        × (r ≡ cond (eqb flag 1 && not (same (kept (now (flash .entry)) place (now (bytes .entry))) (now (bytes .entry))))
-        readbackDiffers workDone) ⌝ }
+    ensures { λ r. ⌜ (now (flash .exit) ≡ programming (now (flash .entry)) place (now (bytes .entry)) .memory)
+        × (r ≡ programmedResult flag (programming (now (flash .entry)) place (now (bytes .entry)) .answer)) ⌝ }
 {
     match memory::program(flash, place, bytes) {
         Programmed::AsGiven => WORK_DONE,
@@ -66,6 +63,6 @@ fn program(flash: &mut [u8], place: usize, flag: u8, bytes: &[u8]) -> u8
             WORK_DONE
         }
         // The bytes lie in the flash, so this does not come.
-        Programmed::Outside => WORK_DONE,
+        Programmed::Outside => WRONG_ADDRESS,
     }
 }

@@ -108,7 +108,8 @@ pub of-both : {A : Type 0} (P : A → Type 0) (test : Bool) {x y : A} → P x �
 of-both P true px py = px
 of-both P false px py = py
 
-of-test : {A : Type 0} (P : A → Type 0) (test : Bool) {x y : A} → (test ≡ true → P x) → (test ≡ false → P y) → P (cond test x y)
+-- or where each test is known
+pub of-test : {A : Type 0} (P : A → Type 0) (test : Bool) {x y : A} → (test ≡ true → P x) → (test ≡ false → P y) → P (cond test x y)
 of-test P true px py = px refl
 of-test P false px py = py refl
 

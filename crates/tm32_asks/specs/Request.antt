@@ -9,6 +9,7 @@ use Rattle.frame.specs.declared.Reading.{Reading}
 use Rattle.frame.specs.declared.Reading.the-variants.{Sound, Spoiled}
 use Rattle.tm32_asks.specs.Map.{optionsLength}
 use Rattle.tm32_asks.specs.Numbers.{longAt}
+use Rattle.tm32_asks.specs.Results.{workDone, wrongShape}
 use Rattle.tm32_asks.specs.declared.Request.{Request}
 use Rattle.tm32_asks.specs.declared.Request.the-variants.{Pps, Get, Read, Write, MemoryCrc, Erase, Go, WriteOptions, ReadOptions, HeartBeat, Misshapen}
 
@@ -42,7 +43,12 @@ requestOf command payload =
     (cond (eqb command 0x41) (exactly 0 payload HeartBeat)
     Misshapen)))))))))
 
--- A message that is no sound frame asks for nothing.
+-- What the reader of frames answers, in 01's numbers: a spoiled frame is of the wrong shape, wherever it is spoiled; a sound one passes so far, and its command and data are looked at.
+unfoldable pub readingResult : Reading → ℕ
+readingResult (Sound command count) = workDone
+readingResult (Spoiled place) = wrongShape
+
+-- A message that is no sound frame asks for nothing, and the checks give it that number.
 unfoldable pub readAs : Reading → List ℕ → Request
 readAs (Sound command count) payload = requestOf command payload
 readAs (Spoiled place) payload = Misshapen

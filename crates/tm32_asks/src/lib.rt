@@ -26,6 +26,7 @@ pub use requests::CRC_START;
 pub use requests::bytes_to_write;
 pub use requests::request_in;
 pub use results::WORK_DONE;
+pub use results::WRONG_ADDRESS;
 
 // What the host is connected by.
 pub enum Link {

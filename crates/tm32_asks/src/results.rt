@@ -19,7 +19,7 @@ pub(crate) const WRONG_LENGTH: u8 = 0xF2;
 pub(crate) const WRONG_PAGE_COUNT: u8 = 0xF3;
 
 // Not in a region that the command may use.
-pub(crate) const WRONG_ADDRESS: u8 = 0xF1;
+pub const WRONG_ADDRESS: u8 = 0xF1;
 
 // The chip is under read protection (RDP).
 pub(crate) const READ_PROTECTED: u8 = 0x62;

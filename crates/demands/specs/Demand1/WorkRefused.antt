@@ -1,6 +1,6 @@
 -- Document 01, "A message and its reply" and "When nothing is done": lemmas for demand 1. Work whose result is a refusal changes nothing, and so it is on every way of a message and of a call.
 use Prim.Native.Nat.{ℕ}
-use mathlib.Core.Bool.{Bool, true, false, not, _&&_, _||_, and-eq-true-iff, false≢true}
+use mathlib.Core.Bool.{Bool, true, false, _||_, and-eq-true-iff, false≢true}
 use mathlib.Core.List.{List, [], _∷_}
 use mathlib.Core.Path.{_≡_, refl, sym, ap, _∙_}
 use borrow.Author.Tests.{eqb-true}
@@ -8,11 +8,13 @@ use lib.Dec.{eqb}
 use lib.ListN.{drop, length}
 use Rattle.frame.specs.Frame.{dataOf, frame}
 use Rattle.memory.specs.Stores.{same}
+use Rattle.memory.specs.declared.Programmed.{Programmed}
 use Rattle.tm32.specs.After.{Telling, lay, replied}
-use Rattle.tm32.specs.Device.{Device, bytesAt}
+use Rattle.tm32.specs.Device.{Device, Memory, bytesAt}
 use Rattle.tm32_asks.specs.Request.{crcStart, requestIn}
 use Rattle.tm32.specs.Respond.{Answered, greet, helloBack, refuse, replyTo, respond}
-use Rattle.tm32.specs.Work.{readback, work, written}
+use Rattle.tm32_asks.specs.Results.{readbackDiffers, workDone}
+use Rattle.tm32.specs.Work.{programmedResult, readback, work, written}
 use Rattle.tm32.specs.declared.Answer.the-variants.{Refused}
 use Rattle.tm32_asks.specs.declared.Request.{Request}
 use Rattle.tm32_asks.specs.declared.Request.the-variants.{Pps, Get, Read, Write, MemoryCrc, Erase, Go, WriteOptions, ReadOptions, HeartBeat, Misshapen}
@@ -37,12 +39,17 @@ one-of-so test (first ∷ rest) number pass is =
     let both = and-eq-true-iff (test first) (passAll test rest) .0 pass in
     by-first test first number (both .0) (isOneOf rest number) (one-of-so test rest number (both .1)) (eqb number first) refl is
 
+-- what holds of the two results of a write holds of its readback
+pub of-readback : (P : ℕ → Type 0) → P workDone → P readbackDiffers → (flag address : ℕ) (bytes : List ℕ) (after : Memory) → P (readback flag address bytes after)
+unfolding readback programmedResult
+of-readback P done differs flag address bytes after =
+    of-both (λ (answer : Programmed). P (programmedResult flag answer)) (same (bytesAt after address (length bytes)) bytes) done (of-both P (eqb flag 1) differs done)
+
 -- a write is done, with or without readback
 pub write-is-done : (flag address : ℕ) (bytes : List ℕ) (device : Device) → isRefusal (readback flag address bytes (written (device .memory) address bytes)) ≡ false
-unfolding readback isRefusal isOneOf refusals
+unfolding isRefusal isOneOf refusals
 write-is-done flag address bytes device =
-    let stored = written (device .memory) address bytes in
-    of-both (λ (result : ℕ). isRefusal result ≡ false) (eqb flag 1 && not (same (bytesAt stored address (length bytes)) bytes)) refl refl
+    of-readback (λ (result : ℕ). isRefusal result ≡ false) refl refl flag address bytes (written (device .memory) address bytes)
 
 module _ (settings : Settings) (device : Device) (payload : List ℕ) where
   -- work whose result is a refusal leaves the device as it was

@@ -1,6 +1,6 @@
 -- Document 01, "A message and its reply": lemmas for demand 2. The result of every reply is one that 01 names, and no reply is longer than the room that must be lent for it.
 use Prim.Native.Nat.{ℕ, _-_, _≤_}
-use mathlib.Core.Bool.{true, not, _&&_, false≢true}
+use mathlib.Core.Bool.{true, false≢true}
 use mathlib.Core.List.{List, []}
 use mathlib.Core.Path.{_≡_, refl, sym, ap, _∙_}
 use native.Mathlib.Omega.{arith}
@@ -9,7 +9,6 @@ use lib.ListN.{drop, length, length-append}
 use Rattle.frame.specs.Crc.{crc}
 use Rattle.frame.specs.Frame.{dataOf, frame, word}
 use Rattle.frame.proofs.Laws.{length-frame}
-use Rattle.memory.specs.Stores.{same}
 use Rattle.tm32_asks.specs.Checks.{mostBytes, noneFails}
 use Rattle.tm32.specs.Device.{Device, bytesAt}
 use Rattle.tm32_asks.specs.Map.{nvrStart, optionsLength, optionsStart}
@@ -18,7 +17,7 @@ use Rattle.tm32_asks.specs.Options.{optionBytes}
 use Rattle.tm32_asks.specs.Request.{crcStart, requestIn}
 use Rattle.tm32.specs.Respond.{Answered, greet, helloBack, refuse, replyTo, respond}
 use Rattle.tm32_asks.specs.Results.{noHandshake, readbackDiffers, workDone, wrongCrc, wrongShape}
-use Rattle.tm32.specs.Work.{compared, information, readback, work, written}
+use Rattle.tm32.specs.Work.{compared, information, work, written}
 use Rattle.tm32_asks.specs.declared.Request.{Request}
 use Rattle.tm32_asks.specs.declared.Request.the-variants.{Pps, Get, Read, Write, MemoryCrc, Erase, Go, WriteOptions, ReadOptions, HeartBeat, Misshapen}
 use Rattle.tm32.specs.declared.Settings.{Settings}
@@ -26,6 +25,7 @@ use Rattle.tm32_asks.proofs.Accepted.{of-both, read-accepted}
 use Rattle.tm32_asks.proofs.Verdicts.{of-numbers, passAll}
 use Rattle.tm32.proofs.Written.{part-length, read-length}
 use Rattle.demands.specs.Demand1.Refusals.{isOneOf}
+use Rattle.demands.specs.Demand1.WorkRefused.{of-readback}
 use Rattle.demands.specs.Demand2.Replies.{Reply, Sized, framed, greeting, isResult, nothing, results}
 use Rattle.demands.specs.Messages.FirstFailing.{FirstFailing, number-so, requestChecks}
 use Rattle.demands.specs.Messages.Ways.{Heard, greeted, heard-so, no-frame, same-number, silent, turnedAway, unshaken, workedOn}
@@ -46,14 +46,14 @@ unshaken-result = refl
 -- what holds of the four results that work has holds of that of every request
 module _ (P : ℕ → Type 0) (done : P workDone) (differs : P readbackDiffers) (wrong : P wrongCrc) (shapeless : P wrongShape) where
   pub of-results : (settings : Settings) (device : Device) (payload : List ℕ) (request : Request) → P (work settings device payload request .result)
-  unfolding work readback compared
+  unfolding work compared
   of-results settings device payload (Pps code) = done
   of-results settings device payload Get = done
   of-results settings device payload (Read address count) = done
   of-results settings device payload (Write flag address count) =
       let bytes = drop 5 payload in
       let after = written (device .memory) address bytes in
-      of-both P (eqb flag 1 && not (same (bytesAt after address (length bytes)) bytes)) differs done
+      of-readback P done differs flag address bytes after
   of-results settings device payload (MemoryCrc address count wanted) = of-both P (eqb (crc crcStart (bytesAt (device .memory) address count)) wanted) done wrong
   of-results settings device payload (Erase first count) = done
   of-results settings device payload (Go address) = done

@@ -1,6 +1,6 @@
 -- Document 01, "Who may touch which page": the work of a request that neither reads nor writes the option bytes does not look at them, and leaves them as they are.
 use Prim.Native.Nat.{ℕ, _+_, _-_, _≤_, _<_}
-use mathlib.Core.Bool.{Bool, true, false, cond, not, _&&_, true≢false}
+use mathlib.Core.Bool.{Bool, true, false, cond, true≢false}
 use mathlib.Core.List.{List, [], _∷_}
 use mathlib.Core.Path.{_≡_, refl, sym, ap, ap₂, _∙_}
 use native.Mathlib.Decide.{decLt}
@@ -11,6 +11,7 @@ use lib.ListN.{drop, getD, length}
 use Rattle.frame.specs.Crc.{crc}
 use Rattle.frame.specs.Frame.{frame}
 use Rattle.memory.specs.Stores.{kept, part, replaced, same}
+use Rattle.memory.specs.declared.Programmed.the-variants.{AsGiven, Differs}
 use Rattle.memory.proofs.Laws.{length-replaced, part-same, region-holds, replaced-before, replaced-behind, replaced-inside}
 use Rattle.shape.specs.MoreRights.{SameWork}
 use Rattle.tm32.specs.After.{replied}
@@ -22,8 +23,8 @@ use Rattle.tm32.specs.OptionMessages.{readsOptions, touchesOptions}
 use Rattle.tm32_asks.specs.Options.{optionBytes}
 use Rattle.tm32.specs.Promises.{Lent}
 use Rattle.tm32.specs.Respond.{replyTo}
-use Rattle.tm32_asks.specs.Results.{readbackDiffers, workDone, wrongCrc}
-use Rattle.tm32.specs.Work.{Worked, compared, erased, readback, work, written}
+use Rattle.tm32_asks.specs.Results.{workDone, wrongCrc}
+use Rattle.tm32.specs.Work.{Worked, compared, erased, programmedResult, readback, work, written}
 use Rattle.tm32_asks.specs.declared.Request.{Request}
 use Rattle.tm32_asks.specs.declared.Request.the-variants.{Pps, Get, Read, Write, MemoryCrc, Erase, Go, WriteOptions, ReadOptions, HeartBeat, Misshapen}
 use Rattle.tm32.specs.declared.Session.{Session}
@@ -215,7 +216,7 @@ module _ (settings : Settings) (strict loose : Device) (room : ℕ) (payload : L
       let still = still-written strict loose room stricter (known .sized) address bytes inside in
       let back = bytes-same _ _ (still .alike) address (length bytes) (user-away address (length bytes) inside) in
       done-alike strict loose stricter _ _
-      (ap (λ (now : List ℕ). cond (eqb flag 1 && not (same now bytes)) readbackDiffers workDone) back) refl still
+      (ap (λ (now : List ℕ). programmedResult flag (cond (same now bytes) AsGiven Differs)) back) refl still
 
   -- every request that does not touch the option bytes
   pub work-alike : (request : Request) → Known strict room payload request → touchesOptions request ≡ false

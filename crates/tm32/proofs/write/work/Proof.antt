@@ -1,26 +1,26 @@
 -- `tm32::write::work` meets its contract: the code tries the regions in the definition's order, the bytes lie in the region that it finds, and what it stores there reads back.
 use Prim.Native.Nat.{ℕ, _+_, _-_, _≤_}
-use mathlib.Core.Bool.{Bool, true, false, cond, not, _&&_, and-false}
+use mathlib.Core.Bool.{Bool, true, false, cond}
 use mathlib.Core.List.{List}
 use mathlib.Core.Path.{_≡_, sym, ap, _∙_}
 use native.Mathlib.Omega.{arith}
 use borrow.Author.Needs.{needs}
 use denote.Ref.{now}
-use lib.Dec.{eqb}
 use lib.ListN.{length}
-use Rattle.memory.specs.Stores.{change, kept, part, replaced, replacing, same}
-use Rattle.memory.proofs.Laws.{length-kept, part-of-replaced, region-holds, same-itself}
+use Rattle.memory.specs.Stores.{Outcome, change, kept, part, programming, replaced, replacing, same}
+use Rattle.memory.specs.declared.Programmed.the-variants.{AsGiven, Differs}
+use Rattle.memory.proofs.Laws.{length-kept, part-of-replaced, programmed, region-holds, same-itself}
 use Rattle.tm32.specs.Device.{Memory, bytesAt, memoryOf}
 use Rattle.tm32_asks.specs.Map.{flashLength, flashStart, inFlash, inRam, inUserNvr, inUserRegion, nvrStart, ramLength, ramStart, userNvrLength, userNvrStart}
-use Rattle.tm32_asks.specs.Results.{readbackDiffers, workDone}
-use Rattle.tm32.specs.Work.{readback, written}
+use Rattle.tm32_asks.specs.Results.{workDone}
+use Rattle.tm32.specs.Work.{programmedResult, readback, written}
 use Rattle.tm32.proofs.Written.{stores}
 use Rattle.tm32.proofs.write.work.Statement.{statement}
 use Rattle.tm32.proofs.write.work.Tie as tie
 
 -- the result, by the bytes that are read back
 abbrev result : ℕ → List ℕ → List ℕ → ℕ
-result flag back bytes = cond (eqb flag 1 && not (same back bytes)) readbackDiffers workDone
+result flag back bytes = programmedResult flag (cond (same back bytes) AsGiven Differs)
 
 -- what is kept of bytes in flash is read back there
 kept-reads : (flash : List ℕ) (place : ℕ) (bytes : List ℕ) → place + length bytes ≤ length flash
@@ -47,18 +47,21 @@ module _ (flash ram nvr : List ℕ) (flag address : ℕ) (bytes : List ℕ) wher
   -- bytes that read back as they were sent are no mistake
   as-sent : (flash′ ram′ nvr′ : List ℕ) → memoryOf flash′ ram′ nvr′ ≡ written (memoryOf flash ram nvr) address bytes
       → bytesAt (memoryOf flash′ ram′ nvr′) address (length bytes) ≡ bytes → Wrote flash′ ram′ nvr′ workDone
-  as-sent flash′ ram′ nvr′ is reads = by-readback flash′ ram′ nvr′ workDone bytes is reads (simp (same-itself bytes, and-false))
+  unfolding programmedResult
+  as-sent flash′ ram′ nvr′ is reads = by-readback flash′ ram′ nvr′ workDone bytes is reads (simp (same-itself bytes))
 
   -- in flash what is kept is read back
   in-flash : inFlash address (length bytes) ≡ true → address - flashStart + length bytes ≤ length flash
-      → (flash′ : List ℕ) (number : ℕ) → let left = kept flash (address - flashStart) bytes in
-      flash′ ≡ replaced flash (address - flashStart) left → number ≡ result flag left bytes → Wrote flash′ ram nvr number
+      → (flash′ : List ℕ) (number : ℕ) → let did = programming flash (address - flashStart) bytes in
+      flash′ ≡ did .memory → number ≡ programmedResult flag (did .answer) → Wrote flash′ ram nvr number
   unfolding written bytesAt
   in-flash inside fits flash′ number is gives =
+      let did = programmed flash (address - flashStart) bytes fits in
+      let now-is = is ∙ ap (λ (outcome : Outcome). outcome .memory) did in
       by-readback flash′ ram nvr number (kept flash (address - flashStart) bytes)
-      (simp (inside, is))
-      (simp (inside, is) (kept-reads flash _ bytes fits))
-      gives
+      (simp (inside, now-is))
+      (simp (inside, now-is) (kept-reads flash _ bytes fits))
+      (gives ∙ ap (λ (outcome : Outcome). programmedResult flag (outcome .answer)) did)
 
   -- in RAM the bytes themselves
   in-ram : inFlash address (length bytes) ≡ false → inRam address (length bytes) ≡ true → address - ramStart + length bytes ≤ length ram
@@ -120,9 +123,6 @@ lies-in-nvr c =
 sub-program : tie.Need-sub-program
 sub-program c = lies-in-flash (c .before) .0
 
-program-requires : tie.Need-program-requires
-program-requires c κs = omega (arith, lies-in-flash (c .before))
-
 returns : tie.Need-returns
 returns c =
     let program = c .before .before in
@@ -156,7 +156,7 @@ work-spec =
     (search needs)
     sub-program
     (search needs)
-    program-requires
+    (search needs)
     (search needs)
     returns
     (search needs)
