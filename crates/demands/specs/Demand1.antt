@@ -1,22 +1,25 @@
 -- Document 01, "A message and its reply" and "When nothing is done": demand 1. Whatever the bytes, the state and the lent memory are, each refusal has its own number and is given for its own reason, and
 -- a message that is refused changes no byte of any stored memory.
--- Words to read: below, `Refusals`, `Reasons` and `Meanings`; and beside them `FirstFailing` and `requestChecks` of `Messages.FirstFailing`, `NeitherEmptyNorHello` of `Messages.Ways`.
--- Lemmas to skip, below: `WorkRefused`, `WorkDiffers` and `NumbersMean`.
+-- Words to read: below, `Refusals`, `Reasons`, `Meanings` and `Shapes`; and beside them `FirstFailing` and `requestChecks` of `Messages.FirstFailing`, `NeitherEmptyNorHello` of `Messages.Ways`.
+-- Lemmas to skip, below: `WorkRefused`, `WorkDiffers`, `NumbersMean` and `ShapesRead`.
 pub mod Refusals
 pub mod Reasons
 pub mod Meanings
+pub mod Shapes
 pub mod WorkRefused
 pub mod WorkDiffers
 pub mod NumbersMean
+pub mod ShapesRead
 use Prim.Native.Nat.{ℕ}
 use mathlib.Core.Bool.{true}
 use mathlib.Core.List.{List, []}
 use mathlib.Core.Path.{_≡_, refl, _∙_}
 use lib.ListN.{length}
 use Rattle.frame.specs.Frame.{dataOf, frame}
-use Rattle.tm32.specs.After.{after, noReply, replied, tell}
-use Rattle.tm32_asks.specs.Checks.{checksOf, numbersOf}
+use Rattle.tm32.specs.After.{after, callChecks, noReply, replied, tell, telling}
+use Rattle.tm32_asks.specs.Checks.{checksOf, noneFails, numbersOf}
 use Rattle.tm32.specs.Device.{Device}
+use Rattle.tm32.specs.OptionMessages.{isTalking}
 use Rattle.tm32_asks.specs.Options.{optionBytes}
 use Rattle.tm32_asks.specs.Request.{crcStart, requestIn}
 use Rattle.tm32.specs.Respond.{refuse, replyTo, respond}
@@ -30,11 +33,13 @@ use Rattle.tm32_asks.proofs.Verdicts.{of-numbers}
 use Rattle.demands.specs.Demand1.Meanings.{Because, follows, order}
 use Rattle.demands.specs.Demand1.NumbersMean.{number-means}
 use Rattle.demands.specs.Demand1.Reasons.{Reason, differs, failed, noHello}
-use Rattle.demands.specs.Demand1.Refusals.{isRefusal}
+use Rattle.demands.specs.Demand1.Refusals.{isOneOf, isRefusal, refusals}
+use Rattle.demands.specs.Demand1.Shapes.{Misshapes}
+use Rattle.demands.specs.Demand1.ShapesRead.{reason-is-shape, shape-fails}
 use Rattle.demands.specs.Demand1.WorkDiffers.{reason-way}
 use Rattle.demands.specs.Demand1.WorkRefused.{both-stay, stays-call, stays-way}
-use Rattle.demands.specs.Messages.FirstFailing.{FirstFailing, called, request-fails, request-passes, requestChecks}
-use Rattle.demands.specs.Messages.Ways.{asked, before-hello, heard-so, reply-told}
+use Rattle.demands.specs.Messages.FirstFailing.{FirstFailing, call-passes, called, request-fails, request-passes, requestChecks}
+use Rattle.demands.specs.Messages.Ways.{NeitherEmptyNorHello, asked, before-hello, heard-so, reply-told}
 
 -- ---- nothing changes
 
@@ -79,6 +84,13 @@ reason-refuses settings device message number (failed asks talks first found) =
 reason-refuses settings device message number (differs asks talks pass address count wanted is other) =
     asked settings device message asks talks ∙ request-passes settings device (dataOf message) (requestIn message) pass ∙ rw (is, other)
 
+-- and so the call is told, where it passes its own checks
+pub told-reason-refuses : (settings : Settings) (device : Device) (message : List ℕ) (number room : ℕ) → noneFails (callChecks device room) ≡ true → Reason device message number
+    → tell settings device message room ≡ telling device (replied (frame crcStart number []))
+unfolding refuse
+told-reason-refuses settings device message number room hears reason =
+    rw (call-passes settings device message room hears, reason-refuses settings device message number reason)
+
 -- ---- each number with its own meaning
 
 -- a request that is refused by a check is refused for what its number says
@@ -90,3 +102,16 @@ refused-because device request number found = number-means (device .session .lin
 pub in-order : (link : Link) (options : List ℕ) (request : Request) → follows (numbersOf (checksOf link options request)) order ≡ true
 unfolding order follows
 in-order = of-numbers (λ numbers. follows numbers order ≡ true) refl refl refl refl refl refl refl
+
+-- ---- the seven ways in which shape fails
+
+module _ (settings : Settings) (device : Device) (message : List ℕ) (room : ℕ) where
+  -- each of them draws 0x91 from a device that is Talking, in a call that passes its checks
+  pub shape-refused : noneFails (callChecks device room) ≡ true → isTalking (device .session .state) ≡ true → NeitherEmptyNorHello message → Misshapes message
+      → tell settings device message room ≡ telling device (replied (frame crcStart 0x91 []))
+  shape-refused hears talks asks is = told-reason-refuses settings device message 0x91 room hears (failed asks talks 0x91 (shape-fails device message is))
+
+  -- and nothing else does, from any device
+  pub refused-for-shape : (payload : List ℕ) → tell settings device message room .told ≡ replied (frame crcStart 0x91 payload) → Misshapes message
+  unfolding isRefusal isOneOf refusals
+  refused-for-shape payload is = reason-is-shape device message 0x91 refl (told-refused-for settings device message 0x91 payload refl room is)

@@ -65,7 +65,7 @@ module _ (settings : Settings) (device : Device) (message : List ℕ) (room : �
       rw (call-passes settings device message room hears, asked settings device message (wiping-asks device message wipe) talks)
       (work-blank settings device (dataOf message) (requestIn message) (lent device room hears .flash) wipe)
 
-  -- options that do not leave the flash as it was
+  -- a write of options that does not wipe leaves all of the flash as it was
   pub unwiped-stays : requestIn message ≡ WriteOptions → wiping device message ≡ false → tell settings device message room .device .memory .flash ≡ device .memory .flash
   unfolding wiping
   unwiped-stays writes spared =

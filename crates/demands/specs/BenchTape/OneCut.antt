@@ -1,4 +1,5 @@
--- Document 01, "The bench tape": a tape that is cut once, less telling than the pieces on the page `BenchTape`. That is so of all plays that do not end for want of room for records.
+-- Document 01, "The bench tape": a tape that is cut once, less telling than the pieces on the page `BenchTape`. That is so of all plays that do not end
+-- for want of room for records, and `room-enough` on that page tells what room is enough.
 use Prim.Native.Nat.{ℕ}
 use mathlib.Core.Bool.{Bool, true, false, true≢false}
 use mathlib.Core.List.{List, _++_}

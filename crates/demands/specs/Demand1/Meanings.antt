@@ -25,7 +25,8 @@ pub data Changes : Request → PageRun → Type 0 where
   byWrite : (flag address count : ℕ) → Changes (Write flag address count) (flashPages address count)
   byErase : (first count : ℕ) → Changes (Erase first count) (pages first count)
 
--- What each number says of a request, on a link and under option bytes: shape, link, rate, length, page count, address, read protection, PCROP, write protection.
+-- What each number says of a request, on a link and under option bytes: shape, link, rate, length, page count, address, read protection, PCROP, write protection. Of shape, `Shapes` has the seven ways
+-- in which it fails.
 pub data Because (link : Link) (options : List ℕ) : Request → ℕ → Type 0 where
   shape : Because link options Misshapen 0x91
   noUart : (code : ℕ) → isUart link ≡ false → Because link options (Pps code) 0xF5

@@ -32,7 +32,7 @@ use Rattle.cases.specs.Cases.{fullDevice, onBench, pcrop5, rdp, wrp7}
 use Rattle.cases.specs.Wire.{askErase, askRead, askReadOptions, askWrite, done, first, halfwords, heartBeat, hex, little, message, noPages, off, options}
 use Rattle.demands.specs.BenchTape.Shown.{sentAll}
 use Rattle.demands.specs.Demand1.Refusals.{isOneOf}
-use Rattle.demands.specs.Demand3.TwoDevices.{Agree, AlikeButOptions, happens, holdsOption, isProtectionRefusal, leftFor, optionEvent, sparesOptions}
+use Rattle.demands.specs.Demand3.TwoDevices.{Agree, AlikeButOptions, happens, holdsOption, isProtectionRefusal, permittedBy, optionEvent, sparesOptions}
 
 -- What the callers of two devices are told of some messages: that of the stricter; that of the looser, were all of them sent to it; and that of the looser, where those are left out that the
 -- stricter refuses for protection.
@@ -51,7 +51,7 @@ comparing strict loose messages =
     comparison
     (run freshSettings (fullDevice strict) (sentAll messages) .told)
     (run freshSettings (fullDevice loose) (sentAll messages) .told)
-    (run freshSettings (fullDevice loose) (leftFor freshSettings (fullDevice strict) (sentAll messages)) .told)
+    (run freshSettings (fullDevice loose) (permittedBy freshSettings (fullDevice strict) (sentAll messages)) .told)
 
 -- The reply that a caller is told first, if any.
 abbrev pub firstReply : List Told → List ℕ
@@ -170,7 +170,7 @@ pcrop-protects = record { rdp = λ is. refl; pcrop = λ page is. is; wrp = λ pa
 -- ---- what a message of the class that stands apart does
 
 -- Read options tells the option bytes, in which the two devices differ: the conclusion fails.
-pub apart-alters : Agree (run freshSettings (fullDevice rdp) (sentAll (askReadOptions ∷ []))) (run freshSettings (fullDevice off) (leftFor freshSettings (fullDevice rdp) (sentAll (askReadOptions ∷ [])))) → ⊥
+pub apart-alters : Agree (run freshSettings (fullDevice rdp) (sentAll (askReadOptions ∷ []))) (run freshSettings (fullDevice off) (permittedBy freshSettings (fullDevice rdp) (sentAll (askReadOptions ∷ [])))) → ⊥
 unfolding others comparing lookAndStore eraseAndLook lookAndBeat sentAll run tell callChecks without happens tells isProtectionRefusal isOneOf hex little message halfwords options respond serve replyTo verdictOn refuse frame covered word crc byteDone bitsDone bitDone shifted polynomial reading wordAt dataOf requestIn readAs requestOf exactly writeIn longAt fromOneTo checks protections readChecks writeChecks flashPages verdict within inReadRegion inUserRegion touched somePage someFrom inEither covers optionBytes part rdpOn work bytesAt written readback programmedResult replaced kept masked same erased freshSettings
 apart-alters agree =
     let rdp-byte : _≡_ {A = ℕ} 0x00 0xAA = ap (λ (told : List Told). getD (firstReply told) 4 0) (agree .told) in

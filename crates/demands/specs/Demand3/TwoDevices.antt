@@ -51,9 +51,9 @@ optionEvent device (restarted link) = false
 abbrev pub sparesOptions : Settings → Device → List Event → Bool
 sparesOptions settings device events = noneOf (happens settings) optionEvent device events
 
--- The events of a list that are left for a looser device: all but those that a device refuses for protection.
-abbrev pub leftFor : Settings → Device → List Event → List Event
-leftFor settings strict events = without (happens settings) isProtectionRefusal strict events
+-- The events of a list that the protection of a device permits: all but the messages that it refuses for protection. A looser device is sent these.
+abbrev pub permittedBy : Settings → Device → List Event → List Event
+permittedBy settings strict events = without (happens settings) isProtectionRefusal strict events
 
 -- That two runs agree: all that the caller is told in the first, but for refusals for protection, the caller of the second is told, in that order; and the devices are alike in the end.
 pub record Agree (strict loose : Ran) : Type 0 where
