@@ -1,4 +1,5 @@
--- What the crate's contracts mean: ranges in regions, pages, and stores into lent memory. Document 01, "The ten commands" and "Who may touch which page".
+-- What the crate's contracts mean: ranges in regions, pages, and stores into lent memory. Document 01, "The ten commands" and "Who may touch which page". Each word that they
+-- are written in is explained in docs/READING.md.
 pub mod Pages
 pub mod Ranges
 pub mod Stores

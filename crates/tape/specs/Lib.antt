@@ -1,4 +1,4 @@
--- The bench tape as document 01 lays it down: records, the messages that a tape holds, and what playing them leaves. How to read these is told in `tm32`'s `Lib`.
+-- The bench tape as document 01 lays it down: records, the messages that a tape holds, and what playing them leaves. Each word that these are written in is explained in docs/READING.md.
 pub mod Records
 pub mod Script
 pub mod Play
