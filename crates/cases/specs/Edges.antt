@@ -24,18 +24,24 @@ use Rattle.cases.specs.Wire.{askErase, askRead, askWrite, askWriteOption
 -- Fourteen marks, in 01's order; that of RDP 0x00 over 0xAA is a write and a read, so fifteen messages.
 unfoldable pub markedP : List Case
 markedP =
+    -- Heart beat when Waiting, and when Talking.
     case freshDevice [] heartBeat (hex 6 0x2D8000009235) (onBench Waiting blankFlash off)
     ∷ fresh [] heartBeat done (blankDevice off)
+    -- Read of the last byte of the flash, and one more; of 1,025 bytes, and of none.
     ∷ fresh [] (askRead 0x08007FFF 1) (hex 7 0x2D900100FF91C6) (blankDevice off)
     ∷ fresh [] (askRead 0x08007FFF 2) (hex 6 0x2DF10000AADA) (blankDevice off)
     ∷ fresh [] (askRead 0x08000000 1025) (hex 6 0x2DF20000FA83) (blankDevice off)
     ∷ fresh [] (askRead 0x08000000 0) (hex 6 0x2DF20000FA83) (blankDevice off)
+    -- PCROP 5 to 5: Read of the last byte before page 5, and one more.
     ∷ fresh (askWriteOptions pcrop5 ∷ []) (askRead 0x080013FF 1) (hex 7 0x2D900100FF91C6) (blankDevice pcrop5)
     ∷ fresh (askWriteOptions pcrop5 ∷ []) (askRead 0x080013FF 2) (hex 6 0x2D630000F3CC) (blankDevice pcrop5)
+    -- Erase of page 31, and of one page more.
     ∷ fresh [] (askErase 31 1) done (blankDevice off)
     ∷ fresh [] (askErase 31 2) (hex 6 0x2DF10000AADA) (blankDevice off)
+    -- 0x3C written over 0x0F, with flag 1 and with flag 0.
     ∷ fresh (put 0x0F ∷ []) (askWrite 1 0x08000400 (0x3C ∷ [])) (hex 6 0x2D9200009118) (onBench Talking (oneByte 0x0C) off)
     ∷ fresh (put 0x0F ∷ []) (put 0x3C) done (onBench Talking (oneByte 0x0C) off)
+    -- RDP 0x00 over 0xAA: the write, and a read; and 0xAA again.
     ∷ fresh [] (askWriteOptions rdp) done (blankDevice rdp)
     ∷ fresh (askWriteOptions rdp ∷ []) (askRead 0x08000000 1) (hex 6 0x2D620000C3FB) (blankDevice rdp)
     ∷ fresh (askWriteOptions rdp ∷ []) (askWriteOptions off) done (blankDevice off)
