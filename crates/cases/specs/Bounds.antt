@@ -14,7 +14,7 @@ use Rattle.tm32.specs.Fresh.{freshDevice, freshFlash, freshNvr, freshOptions, f
 use Rattle.tm32_asks.specs.Map.{inReadRegion, inUserRegion}
 use Rattle.tm32_asks.specs.Numbers.{fromOneTo, long, longAt}
 use Rattle.tm32_asks.specs.Options.{inEither, optionBytes, rdpOn}
-use Rattle.tm32_asks.specs.Request.{exactly, readAs, requestIn, requestOf, writeIn}
+use Rattle.tm32_asks.specs.Request.{exactly, readingResult, requestIn, requestOf, writeIn}
 use Rattle.tm32.specs.Respond.{greet, refuse, replyTo, respond, serve, verdictOn}
 use Rattle.tm32.specs.Work.{commandWord, compared, erased, information, programmedResult, readback, toldCommands, wiped, wipes, withOptions, work, written}
 use Rattle.tm32_asks.specs.declared.Link.the-variants.{Spi}
@@ -80,5 +80,5 @@ boundCases = otherCommands ++ moreBounds
 
 -- All of them hold.
 pub bounds-hold : computed boundCases ≡ expected boundCases
-unfolding computed expected prepared hex little message halfwords options boundCases otherCommands moreBounds after tell callChecks lay laid respond greet serve replyTo verdictOn refuse frame covered word crc byteDone bitsDone bitDone shifted polynomial reading wordAt dataOf requestIn readAs requestOf writeIn exactly longAt checks verdict protections readChecks writeChecks flashPages somePage someFrom covers touched within inReadRegion inUserRegion bytesAt part replaced masked kept same rdpOn inEither optionBytes erased wipes wiped withOptions work written readback programmedResult compared information long commandWord toldCommands freshDevice freshFlash freshRam freshNvr freshOptions freshSettings fromOneTo
+unfolding computed expected prepared hex little message halfwords options boundCases otherCommands moreBounds after tell callChecks lay laid respond greet serve replyTo verdictOn refuse frame covered word crc byteDone bitsDone bitDone shifted polynomial reading wordAt dataOf requestIn readingResult requestOf writeIn exactly longAt checks verdict protections readChecks writeChecks flashPages somePage someFrom covers touched within inReadRegion inUserRegion bytesAt part replaced masked kept same rdpOn inEither optionBytes erased wipes wiped withOptions work written readback programmedResult compared information long commandWord toldCommands freshDevice freshFlash freshRam freshNvr freshOptions freshSettings fromOneTo
 bounds-hold = refl

@@ -19,7 +19,7 @@ use Rattle.tm32.specs.OptionMessages.{isTalking, optionMessage, readsOptions, t
 use Rattle.tm32_asks.specs.Options.{inEither, rdpOn, underPcrop, underWrp}
 use Rattle.tm32_asks.specs.Rates.{bitsPerSecond, rates}
 use Rattle.tm32_asks.specs.Numbers.{fromOneTo, long, longAt}
-use Rattle.tm32_asks.specs.Request.{exactly, readAs, requestIn, requestOf}
+use Rattle.tm32_asks.specs.Request.{exactly, readingResult, requestIn, requestOf}
 use Rattle.tm32.specs.Respond.{greet, refuse, replyTo, respond, serve, verdictOn}
 use Rattle.tm32.specs.Run.{restarted, run, sent}
 use Rattle.tm32.specs.Work.{commandWord, information, spi1, toldCommands, uart1, uart2, work}
@@ -109,7 +109,7 @@ pub touching-the-options :
     map (λ (one : List ℕ). optionMessage (withSession freshDevice (sessionOf Talking Uart 0x0A)) one 1030)
     (askWriteOptions off ∷ askReadOptions ∷ askRead 0x1FFF07FF 1 ∷ askRead 0x1FFF07FF 2 ∷ askRead 0x1FFF0815 1 ∷ askRead 0x1FFF0816 1 ∷ askRead 0x1FFF0800 1025 ∷ heartBeat ∷ [])
     ≡ true ∷ true ∷ false ∷ true ∷ true ∷ false ∷ false ∷ false ∷ []
-unfolding hex little message halfwords options freshDevice freshFlash freshRam freshNvr freshOptions replaced callChecks verdict optionMessage isTalking touchesOptions readsOptions within requestIn readAs requestOf exactly longAt reading wordAt dataOf frame covered word crc byteDone bitsDone bitDone shifted polynomial fromOneTo
+unfolding hex little message halfwords options freshDevice freshFlash freshRam freshNvr freshOptions replaced callChecks verdict optionMessage isTalking touchesOptions readsOptions within requestIn readingResult requestOf exactly longAt reading wordAt dataOf frame covered word crc byteDone bitsDone bitDone shifted polynomial fromOneTo
 touching-the-options = refl
 
 -- A device that Waits reads none of them, and no message does where the room for the reply is too small.
@@ -125,7 +125,7 @@ nothing-without-room = refl
 pub a-short-run :
     run freshSettings freshDevice (sent handshake 1030 ∷ sent heartBeat 1029 ∷ sent heartBeat 1030 ∷ restarted Spi ∷ sent heartBeat 1030 ∷ []) .told
     ≡ replied shaken ∷ noReply 4 ∷ replied done ∷ replied (hex 6 0x2D8000009235) ∷ []
-unfolding hex run tell callChecks verdict respond greet serve replyTo refuse verdictOn checks protections work requestIn readAs requestOf exactly reading wordAt dataOf frame covered word crc byteDone bitsDone bitDone shifted polynomial same freshDevice freshFlash freshRam freshNvr freshOptions replaced fromOneTo
+unfolding hex run tell callChecks verdict respond greet serve replyTo refuse verdictOn checks protections work requestIn readingResult requestOf exactly reading wordAt dataOf frame covered word crc byteDone bitsDone bitDone shifted polynomial same freshDevice freshFlash freshRam freshNvr freshOptions replaced fromOneTo
 a-short-run = refl
 
 -- The reply lies over the start of the buffer, and the rest of it is as it came.

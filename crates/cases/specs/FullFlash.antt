@@ -15,7 +15,7 @@ use Rattle.tm32.specs.Fresh.{freshDevice, freshFlash, freshNvr, freshOptions, f
 use Rattle.tm32_asks.specs.Map.{inReadRegion, inUserRegion}
 use Rattle.tm32_asks.specs.Numbers.{fromOneTo, longAt}
 use Rattle.tm32_asks.specs.Options.{inEither, optionBytes, rdpOn}
-use Rattle.tm32_asks.specs.Request.{exactly, readAs, requestIn, requestOf, writeIn}
+use Rattle.tm32_asks.specs.Request.{exactly, readingResult, requestIn, requestOf, writeIn}
 use Rattle.tm32.specs.Respond.{greet, refuse, replyTo, respond, serve, verdictOn}
 use Rattle.tm32.specs.Work.{erased, programmedResult, readback, wiped, wipes, withOptions, work, written}
 use Rattle.tm32.specs.declared.State.the-variants.{Talking}
@@ -54,5 +54,5 @@ fullFlashCases = overFullFlash ++ almostRight
 
 -- All of them hold.
 pub full-flash-hold : computed fullFlashCases ≡ expected fullFlashCases
-unfolding computed expected prepared hex little message halfwords options fullFlashCases overFullFlash almostRight after tell callChecks lay laid respond greet serve replyTo verdictOn refuse frame covered word crc byteDone bitsDone bitDone shifted polynomial reading wordAt dataOf requestIn readAs requestOf writeIn exactly longAt checks verdict protections readChecks writeChecks flashPages somePage someFrom covers touched within inReadRegion inUserRegion bytesAt part replaced masked kept same rdpOn inEither optionBytes erased wipes wiped withOptions work written readback programmedResult freshDevice freshFlash freshRam freshNvr freshOptions freshSettings fromOneTo
+unfolding computed expected prepared hex little message halfwords options fullFlashCases overFullFlash almostRight after tell callChecks lay laid respond greet serve replyTo verdictOn refuse frame covered word crc byteDone bitsDone bitDone shifted polynomial reading wordAt dataOf requestIn readingResult requestOf writeIn exactly longAt checks verdict protections readChecks writeChecks flashPages somePage someFrom covers touched within inReadRegion inUserRegion bytesAt part replaced masked kept same rdpOn inEither optionBytes erased wipes wiped withOptions work written readback programmedResult freshDevice freshFlash freshRam freshNvr freshOptions freshSettings fromOneTo
 full-flash-hold = refl

@@ -22,7 +22,7 @@ use Rattle.tm32_asks.specs.Map.{inFlash, inGoRegion, inNvr, inRam, inReadRegion
 use Rattle.tm32_asks.specs.Numbers.{fromOneTo, longAt}
 use Rattle.tm32_asks.specs.Options.{inEither, optionBytes, rdpOn}
 use Rattle.tm32_asks.specs.Rates.{bitsPerSecond, isRate, rates}
-use Rattle.tm32_asks.specs.Request.{exactly, readAs, requestIn, requestOf, writeIn}
+use Rattle.tm32_asks.specs.Request.{exactly, readingResult, requestIn, requestOf, writeIn}
 use Rattle.tm32.specs.Respond.{greet, isWaiting, refuse, replyTo, respond, serve, verdictOn}
 use Rattle.tm32.specs.Work.{erased, wiped, wipes, withOptions, work, written}
 use Rattle.tm32_asks.specs.declared.Link.the-variants.{Spi, Uart}
@@ -91,12 +91,12 @@ nothing-touches-a-page is = true≢false (ap (λ (run : PageRun). eqb (run .coun
 
 -- request_in: an unknown command is read as the one before it
 pub unknown-command-read : requestIn (message 0x42 []) ≢ HeartBeat
-unfolding message frame covered word crc byteDone bitsDone bitDone shifted polynomial reading wordAt dataOf requestIn readAs requestOf checks
+unfolding message frame covered word crc byteDone bitsDone bitDone shifted polynomial reading wordAt dataOf requestIn readingResult requestOf checks
 unknown-command-read is = true≢false (ap (λ (request : Request). eqb (length (checks Uart request)) 1) is)
 
 -- request_in: data that the command does not take is passed over
 pub data-passed-over : requestIn (message 0x41 (0x55 ∷ [])) ≢ HeartBeat
-unfolding message frame covered word crc byteDone bitsDone bitDone shifted polynomial reading wordAt dataOf requestIn readAs requestOf exactly checks
+unfolding message frame covered word crc byteDone bitsDone bitDone shifted polynomial reading wordAt dataOf requestIn readingResult requestOf exactly checks
 data-passed-over is = true≢false (ap (λ (request : Request). eqb (length (checks Uart request)) 1) is)
 
 -- bytes_to_write: the last byte of the address is taken for the first of the data
@@ -198,14 +198,14 @@ jump-wants-alignment is = true≢false is
 
 -- answer: a write that does not read back as it was sent is taken back
 pub readback-rolls-back : respond freshSettings (onBench Talking (oneByte 0x0F) off) (askWrite 1 0x08000400 (0x3C ∷ [])) .device ≢ onBench Talking (oneByte 0x0F) off
-unfolding little message halfwords options respond serve replyTo verdictOn frame covered word crc byteDone bitsDone bitDone shifted polynomial reading wordAt dataOf requestIn readAs requestOf writeIn longAt checks verdict protections writeChecks flashPages somePage someFrom covers touched within inUserRegion part replaced masked kept same inEither optionBytes work written fromOneTo
+unfolding little message halfwords options respond serve replyTo verdictOn frame covered word crc byteDone bitsDone bitDone shifted polynomial reading wordAt dataOf requestIn readingResult requestOf writeIn longAt checks verdict protections writeChecks flashPages somePage someFrom covers touched within inUserRegion part replaced masked kept same inEither optionBytes work written fromOneTo
 readback-rolls-back is = true≢false (ap (λ (device : Device). eqb (getD (device .memory .flash) 1024 0) 0x0C) is)
 
 -- answer: a request is worked on before its checks are asked, so a refused write is written whole, on the write-protected page too
 pub refused-write-is-written :
     respond freshSettings (fullDevice wrp7) (askWrite 0 0x08001BFF (0x00 ∷ 0x00 ∷ [])) .device .memory .flash
     ≢ replicate 1024 0x5A ++ 0x0F ∷ replicate 4094 0x5A ++ 0x44 ∷ replicate 2047 0x5A ++ 0x00 ∷ 0x00 ∷ replicate 25598 0x5A ++ 0x3C ∷ []
-unfolding little message halfwords options respond serve verdictOn refuse frame covered word crc byteDone bitsDone bitDone shifted polynomial reading wordAt dataOf requestIn readAs requestOf writeIn longAt checks verdict protections writeChecks flashPages somePage someFrom covers touched within inUserRegion part same inEither optionBytes fromOneTo
+unfolding little message halfwords options respond serve verdictOn refuse frame covered word crc byteDone bitsDone bitDone shifted polynomial reading wordAt dataOf requestIn readingResult requestOf writeIn longAt checks verdict protections writeChecks flashPages somePage someFrom covers touched within inUserRegion part same inEither optionBytes fromOneTo
 refused-write-is-written is = true≢false (ap (λ (flash : List ℕ). eqb (getD flash 7167 0) 0x5A) is)
 
 -- answer: the wipe spares the pages under write protection
@@ -219,18 +219,18 @@ wipe-spares-protected is = true≢false is
 pub free-part-written :
     respond freshSettings (prepared (onBench Waiting (fullFlash 0x0F) off) (handshake ∷ askWriteOptions wrp7 ∷ [])) (askWrite 0 0x08001BFF (0x00 ∷ 0x00 ∷ [])) .device
     ≢ onBench Talking (replicate 1024 0x5A ++ 0x0F ∷ replicate 4094 0x5A ++ 0x44 ∷ replicate 2047 0x5A ++ 0x00 ∷ replicate 25599 0x5A ++ 0x3C ∷ []) wrp7
-unfolding prepared hex little message halfwords options after tell callChecks lay respond greet serve replyTo verdictOn refuse frame covered word crc byteDone bitsDone bitDone shifted polynomial reading wordAt dataOf requestIn readAs requestOf writeIn exactly longAt checks verdict protections writeChecks flashPages somePage someFrom covers touched within inUserRegion part replaced same rdpOn inEither optionBytes wipes wiped withOptions work fromOneTo
+unfolding prepared hex little message halfwords options after tell callChecks lay respond greet serve replyTo verdictOn refuse frame covered word crc byteDone bitsDone bitDone shifted polynomial reading wordAt dataOf requestIn readingResult requestOf writeIn exactly longAt checks verdict protections writeChecks flashPages somePage someFrom covers touched within inUserRegion part replaced same rdpOn inEither optionBytes wipes wiped withOptions work fromOneTo
 free-part-written is = true≢false (ap (λ (device : Device). eqb (getD (device .memory .flash) 7167 0) 0x5A) is)
 
 -- a Read that ends in a page under PCROP: it is answered with data, as from blank flash
 pub protected-page-read-as-blank :
     respond freshSettings (prepared freshDevice (handshake ∷ askWriteOptions pcrop5 ∷ [])) (askRead 0x080013FF 2) .reply ≢ hex 8 0x2D900200FFFFA6AD
-unfolding prepared hex little message halfwords options after tell callChecks lay respond greet serve replyTo verdictOn refuse frame covered word crc byteDone bitsDone bitDone shifted polynomial reading wordAt dataOf requestIn readAs requestOf exactly longAt checks verdict protections readChecks flashPages somePage someFrom covers touched within inReadRegion part replaced same rdpOn inEither optionBytes wipes wiped withOptions work freshDevice freshFlash freshRam freshNvr freshOptions fromOneTo
+unfolding prepared hex little message halfwords options after tell callChecks lay respond greet serve replyTo verdictOn refuse frame covered word crc byteDone bitsDone bitDone shifted polynomial reading wordAt dataOf requestIn readingResult requestOf exactly longAt checks verdict protections readChecks flashPages somePage someFrom covers touched within inReadRegion part replaced same rdpOn inEither optionBytes wipes wiped withOptions work freshDevice freshFlash freshRam freshNvr freshOptions fromOneTo
 protected-page-read-as-blank is = true≢false (ap (same (hex 6 0x2D630000F3CC)) is)
 
 -- options that take read protection away: the page under write protection is not wiped
 pub protected-page-spared :
     respond freshSettings (prepared (onBench Waiting (fullFlash 0x0F) off) (handshake ∷ askWriteOptions rdpWrp7 ∷ [])) (askWriteOptions wrp7) .device
     ≢ onBench Talking (replicate 7168 0xFF ++ replicate 1024 0x5A ++ replicate 24576 0xFF) wrp7
-unfolding prepared hex little message halfwords options after tell callChecks lay respond greet serve replyTo verdictOn frame covered word crc byteDone bitsDone bitDone shifted polynomial reading wordAt dataOf requestIn readAs requestOf exactly checks verdict protections part replaced same rdpOn optionBytes erased wipes wiped withOptions work fromOneTo
+unfolding prepared hex little message halfwords options after tell callChecks lay respond greet serve replyTo verdictOn frame covered word crc byteDone bitsDone bitDone shifted polynomial reading wordAt dataOf requestIn readingResult requestOf exactly checks verdict protections part replaced same rdpOn optionBytes erased wipes wiped withOptions work fromOneTo
 protected-page-spared is = true≢false (ap (λ (device : Device). eqb (getD (device .memory .flash) 7168 0) 0xFF) is)

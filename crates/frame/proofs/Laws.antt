@@ -1,9 +1,10 @@
--- The laws of frames: what a crate above goes by, with no definition of this crate opened. Each holds of any start value and of any data.
+-- The laws of frames: what a crate above goes by, so that it need not open the CRC, a frame, or how one is read and written. Each holds of any start value and of any data.
 --     carried-on, crc-fits                   the CRC of a joined list; the CRC fits 16 bits
 --     laid-front, laid-rest, laid-length     a buffer with something laid over it
 --     written, too-long, no-room             which answer the writer gives, and what it leaves of the buffer
 --     answered                               the other way round: what is known where it answers with a length
 --     written-is-read, answered-is-read      a frame reads as sound, with the second byte and the data that it was made of
+--     read-second                            the second byte that is told of a sound frame is the one that stands there
 --     read-was-written, read-once            a sound frame is the frame of its second byte and its data, and the only one
 --     whole-again                            a number of 16 bits is what its two bytes make
 --     length-message, length-data, short-data, length-frame     lengths
@@ -16,7 +17,7 @@ use mathlib.Core.Path.{_≡_, refl, sym, ap, _∙_}
 use native.Mathlib.Omega.{arith}
 use borrow.Author.Tests.{lt-ltb, le-ltb, eq-eqb, ltb-false}
 use lib.Dec.{ltb, lit<}
-use lib.ListN.{length, take, drop, length-append, length-drop, take-append-drop}
+use lib.ListN.{length, take, drop, getD, length-append, length-drop, take-append-drop}
 use lib.Seq.{take-append-seam, drop-append-seam}
 use Rattle.frame.specs.Crc.{byteDone, crc}
 use Rattle.frame.specs.Frame.{AllBytes, headByte, overhead, longest, word, covered, frame, dataOf, reading, laid, outcome, writing}
@@ -121,6 +122,9 @@ answered-is-read start second payload buffer n after did =
 -- ---- what is read was written
 
 module _ (start : ℕ) (bytes : List ℕ) (second n : ℕ) (sound : reading start bytes ≡ Sound second n) where
+  pub read-second : second ≡ getD bytes 1 0
+  read-second = sym (Passed.passes start bytes second n sound .named)
+
   pub length-message : length bytes ≡ n + overhead
   length-message =
       let was = Passed.passes start bytes second n sound in

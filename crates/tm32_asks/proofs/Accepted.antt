@@ -7,14 +7,13 @@ use borrow.Author.Tests.{eqb-true, leb-true, ltb-false, not-false, not-true}
 use lib.Dec.{eqb, leb, ltb}
 use lib.ListN.{length, drop, getD, length-drop}
 use Rattle.frame.specs.Frame.{dataOf, reading}
-use Rattle.frame.specs.declared.Reading.{Reading}
-use Rattle.frame.specs.declared.Reading.the-variants.{Sound, Spoiled}
 use Rattle.memory.specs.Pages.{pages, somePage}
 use Rattle.tm32_asks.specs.Checks.{Check, checks, checksOf, flashPages, isLength, mostBytes, noneFails, protections, readChecks, writeChecks}
 use Rattle.tm32_asks.specs.Map.{inReadRegion, inUserRegion, optionsLength, pageCount}
 use Rattle.tm32_asks.specs.Numbers.{fromOneTo}
 use Rattle.tm32_asks.specs.Options.{underWrp}
-use Rattle.tm32_asks.specs.Request.{crcStart, exactly, readAs, requestIn, requestOf, writeIn}
+use Rattle.tm32_asks.specs.Request.{crcStart, exactly, readingResult, requestIn, requestOf, writeIn}
+use Rattle.tm32_asks.specs.Results.{workDone}
 use Rattle.tm32_asks.specs.declared.Link.{Link}
 use Rattle.tm32_asks.specs.declared.Request.{Request}
 use Rattle.tm32_asks.specs.declared.Request.the-variants.{Pps, Get, Read, Write, MemoryCrc, Erase, Go, WriteOptions, ReadOptions, HeartBeat, Misshapen}
@@ -139,15 +138,10 @@ command-shaped command payload =
     (of-both (Shaped payload) (eqb command 0x41) (exactly-shaped 0 payload _ (λ is. tt))
     tt)))))))))
 
-read-shaped : (reads : Reading) (payload : List ℕ) → Shaped payload (readAs reads payload)
-unfolding Shaped readAs
-read-shaped (Sound command count) payload = command-shaped command payload
-read-shaped (Spoiled place) payload = tt
-
 -- the data of every message has the shape that its request says
 pub shaped-so : (message : List ℕ) → Shaped (dataOf message) (requestIn message)
-unfolding requestIn
-shaped-so message = read-shaped (reading crcStart message) (dataOf message)
+unfolding requestIn Shaped
+shaped-so message = of-both (Shaped (dataOf message)) (eqb (readingResult (reading crcStart message)) workDone) (command-shaped (getD message 1 0) (dataOf message)) tt
 
 -- under the name that the request is known by
 pub shaped-as : (message : List ℕ) {request known : Request} → request ≡ known → request ≡ requestIn message → Shaped (dataOf message) known

@@ -8,7 +8,7 @@ use borrow.Author.Tests.{eqb-false, not-true}
 use Rattle.frame.specs.Frame.{reading}
 use Rattle.frame.specs.declared.Reading.the-variants.{Spoiled}
 use Rattle.tm32_asks.specs.Checks.{Check, checks, checksOf, noneFails, numbersOf, protections, readChecks, verdict, writeChecks}
-use Rattle.tm32_asks.specs.Request.{crcStart, readAs, readingResult, requestIn}
+use Rattle.tm32_asks.specs.Request.{crcStart, readingResult, requestIn}
 use Rattle.tm32_asks.specs.Results.{pcropProtected, readProtected, workDone, writeProtected, wrongAddress, wrongLength, wrongLink, wrongPageCount, wrongRate, wrongShape}
 use Rattle.tm32_asks.specs.declared.Link.{Link}
 use Rattle.memory.specs.declared.PageRun.{PageRun}
@@ -123,7 +123,7 @@ read-others options run = refl
 -- a message whose frame is spoiled is refused with the number of that
 pub spoiled-refused : (link : Link) (options message : List ℕ) (place : ℕ) → reading crcStart message ≡ Spoiled place
     → verdict workDone (checksOf link options (requestIn message)) ≡ readingResult (reading crcStart message)
-unfolding requestIn readAs readingResult checks protections verdict
+unfolding requestIn readingResult checks protections verdict
 spoiled-refused link options message place is = rw is
 
 -- a verdict that work may be done: no check fails

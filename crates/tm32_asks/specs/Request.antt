@@ -43,16 +43,11 @@ requestOf command payload =
     (cond (eqb command 0x41) (exactly 0 payload HeartBeat)
     Misshapen)))))))))
 
--- What the reader of frames answers, in 01's numbers: a spoiled frame is of the wrong shape, wherever it is spoiled; a sound one passes so far, and its command and data are looked at.
+-- What the reader of frames answers, in 01's numbers: a spoiled frame is of the wrong shape, wherever it is spoiled; a sound one passes, and its command and data are looked at.
 unfoldable pub readingResult : Reading → ℕ
 readingResult (Sound command count) = workDone
 readingResult (Spoiled place) = wrongShape
 
--- A message that is no sound frame asks for nothing, and the checks give it that number.
-unfoldable pub readAs : Reading → List ℕ → Request
-readAs (Sound command count) payload = requestOf command payload
-readAs (Spoiled place) payload = Misshapen
-
--- What a message asks for.
+-- What a message asks for: where its frame passes, what its second byte, the command, asks for with the data.
 unfoldable pub requestIn : List ℕ → Request
-requestIn message = readAs (reading crcStart message) (dataOf message)
+requestIn message = cond (eqb (readingResult (reading crcStart message)) workDone) (requestOf (getD message 1 0) (dataOf message)) Misshapen

@@ -14,7 +14,7 @@ use Rattle.tm32.specs.Device.{Device}
 use Rattle.tm32.specs.Fresh.{freshDevice, freshFlash, freshNvr, freshOptions, freshRam, freshSettings}
 use Rattle.tm32_asks.specs.Numbers.{fromOneTo}
 use Rattle.tm32_asks.specs.Options.{optionBytes}
-use Rattle.tm32_asks.specs.Request.{exactly, readAs, requestIn, requestOf}
+use Rattle.tm32_asks.specs.Request.{exactly, readingResult, requestIn, requestOf}
 use Rattle.tm32.specs.Respond.{greet, refuse, replyTo, respond, serve, verdictOn}
 use Rattle.tm32.specs.Work.{work}
 use Rattle.tm32.specs.declared.State.the-variants.{Waiting}
@@ -118,5 +118,5 @@ workedTapes = printedTape ++ cutTapes ++ judgedHeads ++ otherTapes
 
 -- All of them come out right.
 pub tapes-hold : computed workedTapes ≡ expected workedTapes
-unfolding computed expected workedTapes printedTape cutTapes judgedHeads otherTapes hex little halfwords options playTape play closing onward scriptFrom headed nextOf recordIn recordOf headOf bodyIn tell callChecks verdict respond greet serve replyTo refuse verdictOn checks protections work requestIn readAs requestOf exactly reading wordAt dataOf frame covered word crc byteDone bitsDone bitDone shifted polynomial part same optionBytes freshDevice freshFlash freshRam freshNvr freshOptions freshSettings replaced fromOneTo
+unfolding computed expected workedTapes printedTape cutTapes judgedHeads otherTapes hex little halfwords options playTape play closing onward scriptFrom headed nextOf recordIn recordOf headOf bodyIn tell callChecks verdict respond greet serve replyTo refuse verdictOn checks protections work requestIn readingResult requestOf exactly reading wordAt dataOf frame covered word crc byteDone bitsDone bitDone shifted polynomial part same optionBytes freshDevice freshFlash freshRam freshNvr freshOptions freshSettings replaced fromOneTo
 tapes-hold = refl

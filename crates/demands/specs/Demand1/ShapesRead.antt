@@ -1,7 +1,7 @@
 -- Document 01, "A message and its reply" and "The ten commands": lemmas for demand 1. A message fails in one of the seven ways exactly if the request that is read in it has no shape. One walk through
 -- the tests, in order, shows both.
 use Prim.Native.Nat.{ℕ, _+_, _-_, _<_}
-use mathlib.Core.Bool.{Bool, true, false, not, false≢true, true≢false}
+use mathlib.Core.Bool.{Bool, true, false, cond, not, false≢true, true≢false}
 use mathlib.Core.List.{List, []}
 use mathlib.Core.Path.{_≡_, refl, sym, ap, _∙_}
 use native.Mathlib.Omega.{arith}
@@ -14,8 +14,8 @@ use Rattle.frame.specs.Frame.{dataOf, reading, wordAt}
 use Rattle.frame.specs.declared.Reading.{Reading}
 use Rattle.tm32_asks.specs.Checks.{check, checks, noneFails, numbersOf, protections, readChecks, writeChecks}
 use Rattle.tm32.specs.Device.{Device}
-use Rattle.tm32_asks.specs.Request.{crcStart, exactly, readAs, requestIn, requestOf, writeIn}
-use Rattle.tm32_asks.specs.Results.{wrongShape}
+use Rattle.tm32_asks.specs.Request.{crcStart, exactly, readingResult, requestIn, requestOf, writeIn}
+use Rattle.tm32_asks.specs.Results.{workDone, wrongShape}
 use Rattle.tm32_asks.specs.declared.Request.{Request}
 use Rattle.tm32_asks.specs.declared.Request.the-variants.{Misshapen}
 use Rattle.tm32_asks.proofs.Accepted.{of-test}
@@ -118,9 +118,9 @@ module _ (device : Device) (message : List ℕ) (framed : Framed message) where
 module _ (device : Device) (message : List ℕ) where
   -- every message agrees with its request
   agrees : Agrees device message (requestIn message)
-  unfolding requestIn readAs reading
+  unfolding requestIn readingResult reading
   agrees =
-      let P : Reading → Type 0 = λ reads. Agrees device message (readAs reads (dataOf message)) in
+      let P : Reading → Type 0 = λ reads. Agrees device message (cond (eqb (readingResult reads) workDone) (requestOf (getD message 1 0) (dataOf message)) Misshapen) in
       let place = length message - 2 in
       of-test P (ltb (length message) 6) (λ short. neither (tooShort short))
       (λ long. of-test P (not (eqb (getD message 0 0) 0x2D)) (λ other. neither (otherHead (not-true _ other)))

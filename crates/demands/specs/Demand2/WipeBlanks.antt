@@ -15,7 +15,7 @@ use Rattle.tm32_asks.specs.Checks.{checks, noneFails, protections}
 use Rattle.tm32.specs.Device.{Device}
 use Rattle.tm32_asks.specs.Map.{blank, flashLength, pageCount, pageSize}
 use Rattle.tm32_asks.specs.Options.{optionBytes, rdpOn}
-use Rattle.tm32_asks.specs.Request.{readAs, requestIn}
+use Rattle.tm32_asks.specs.Request.{readingResult, requestIn}
 use Rattle.tm32.specs.Respond.{hello, replyTo, serve}
 use Rattle.tm32.specs.Work.{erased, wiped, wipes, withOptions, work}
 use Rattle.tm32_asks.specs.declared.Request.{Request}
@@ -72,7 +72,7 @@ wiping-writes options payload Misshapen wipe = absurd (false≢true wipe)
 
 -- what is shorter than a frame asks for nothing
 short-misshapen : (message : List ℕ) → ltb (length message) 6 ≡ true → requestIn message ≡ Misshapen
-unfolding requestIn readAs reading
+unfolding requestIn readingResult reading
 short-misshapen message short = rw short
 
 module _ (device : Device) (message : List ℕ) (wipe : wiping device message ≡ true) where

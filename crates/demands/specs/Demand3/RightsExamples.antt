@@ -23,7 +23,7 @@ use Rattle.tm32_asks.specs.Map.{inReadRegion, inUserRegion, optionsLength, page
 use Rattle.tm32_asks.specs.Numbers.{fromOneTo, longAt}
 use Rattle.tm32.specs.OptionMessages.{isTalking, optionMessage, readsOptions, touchesOptions}
 use Rattle.tm32_asks.specs.Options.{ProtectAll, inEither, optionBytes, rdpOn}
-use Rattle.tm32_asks.specs.Request.{exactly, readAs, requestIn, requestOf, writeIn}
+use Rattle.tm32_asks.specs.Request.{exactly, readingResult, requestIn, requestOf, writeIn}
 use Rattle.tm32.specs.Respond.{refuse, replyTo, respond, serve, verdictOn}
 use Rattle.tm32.specs.Run.{run}
 use Rattle.tm32.specs.Work.{erased, programmedResult, readback, work, written}
@@ -93,7 +93,7 @@ pub three-compared :
     (replied (hex 6 0x2D630000F3CC) ∷ replied done ∷ [])
     (replied done ∷ [])
     ∷ []
-unfolding comparing lookAndStore eraseAndLook lookAndBeat sentAll run tell callChecks without happens tells isProtectionRefusal isOneOf hex little message halfwords options respond serve replyTo verdictOn refuse frame covered word crc byteDone bitsDone bitDone shifted polynomial reading wordAt dataOf requestIn readAs requestOf exactly writeIn longAt fromOneTo checks protections readChecks writeChecks flashPages verdict within inReadRegion inUserRegion touched somePage someFrom inEither covers optionBytes part rdpOn work bytesAt written readback programmedResult replaced kept masked same erased freshSettings
+unfolding comparing lookAndStore eraseAndLook lookAndBeat sentAll run tell callChecks without happens tells isProtectionRefusal isOneOf hex little message halfwords options respond serve replyTo verdictOn refuse frame covered word crc byteDone bitsDone bitDone shifted polynomial reading wordAt dataOf requestIn readingResult requestOf exactly writeIn longAt fromOneTo checks protections readChecks writeChecks flashPages verdict within inReadRegion inUserRegion touched somePage someFrom inEither covers optionBytes part rdpOn work bytesAt written readback programmedResult replaced kept masked same erased freshSettings
 three-compared = refl
 
 -- None of these messages reads or writes the option bytes, and Read options does.
@@ -104,7 +104,7 @@ pub which-spare-the-options :
     ∷ sparesOptions freshSettings (fullDevice rdp) (sentAll (askReadOptions ∷ []))
     ∷ []
     ≡ true ∷ true ∷ true ∷ false ∷ []
-unfolding noneOf optionEvent optionMessage isTalking touchesOptions readsOptions comparing lookAndStore eraseAndLook lookAndBeat sentAll run tell callChecks without happens tells isProtectionRefusal isOneOf hex little message halfwords options respond serve replyTo verdictOn refuse frame covered word crc byteDone bitsDone bitDone shifted polynomial reading wordAt dataOf requestIn readAs requestOf exactly writeIn longAt fromOneTo checks protections readChecks writeChecks flashPages verdict within inReadRegion inUserRegion touched somePage someFrom inEither covers optionBytes part rdpOn work bytesAt written readback programmedResult replaced kept masked same erased freshSettings
+unfolding noneOf optionEvent optionMessage isTalking touchesOptions readsOptions comparing lookAndStore eraseAndLook lookAndBeat sentAll run tell callChecks without happens tells isProtectionRefusal isOneOf hex little message halfwords options respond serve replyTo verdictOn refuse frame covered word crc byteDone bitsDone bitDone shifted polynomial reading wordAt dataOf requestIn readingResult requestOf exactly writeIn longAt fromOneTo checks protections readChecks writeChecks flashPages verdict within inReadRegion inUserRegion touched somePage someFrom inEither covers optionBytes part rdpOn work bytesAt written readback programmedResult replaced kept masked same erased freshSettings
 which-spare-the-options = refl
 
 -- ---- the pairs are those of which the theorem speaks
@@ -171,7 +171,7 @@ pcrop-protects = record { rdp = λ is. refl; pcrop = λ page is. is; wrp = λ pa
 
 -- Read options tells the option bytes, in which the two devices differ: the conclusion fails.
 pub apart-alters : Agree (run freshSettings (fullDevice rdp) (sentAll (askReadOptions ∷ []))) (run freshSettings (fullDevice off) (permittedBy freshSettings (fullDevice rdp) (sentAll (askReadOptions ∷ [])))) → ⊥
-unfolding others comparing lookAndStore eraseAndLook lookAndBeat sentAll run tell callChecks without happens tells isProtectionRefusal isOneOf hex little message halfwords options respond serve replyTo verdictOn refuse frame covered word crc byteDone bitsDone bitDone shifted polynomial reading wordAt dataOf requestIn readAs requestOf exactly writeIn longAt fromOneTo checks protections readChecks writeChecks flashPages verdict within inReadRegion inUserRegion touched somePage someFrom inEither covers optionBytes part rdpOn work bytesAt written readback programmedResult replaced kept masked same erased freshSettings
+unfolding others comparing lookAndStore eraseAndLook lookAndBeat sentAll run tell callChecks without happens tells isProtectionRefusal isOneOf hex little message halfwords options respond serve replyTo verdictOn refuse frame covered word crc byteDone bitsDone bitDone shifted polynomial reading wordAt dataOf requestIn readingResult requestOf exactly writeIn longAt fromOneTo checks protections readChecks writeChecks flashPages verdict within inReadRegion inUserRegion touched somePage someFrom inEither covers optionBytes part rdpOn work bytesAt written readback programmedResult replaced kept masked same erased freshSettings
 apart-alters agree =
     let rdp-byte : _≡_ {A = ℕ} 0x00 0xAA = ap (λ (told : List Told). getD (firstReply told) 4 0) (agree .told) in
     omega arith

@@ -1,16 +1,16 @@
 -- `tm32_asks::requests::request_in` meets its contract: what the reader answers picks the definition's case. The data of a sound frame is as short as `request_of` asks.
 use Prim.Native.Nat.{ℕ}
 use mathlib.Core.List.{List}
-use mathlib.Core.Path.{_≡_, sym, ap, ap₂, _∙_}
+use mathlib.Core.Path.{_≡_, sym, ap, _∙_}
 use native.Mathlib.Omega.{arith}
 use borrow.Author.Needs.{needs}
 use denote.Ref.{now}
 use lib.ListN.{length}
 use Rattle.frame.specs.Frame.{dataOf, reading}
-use Rattle.frame.specs.declared.Reading.{Reading}
-use Rattle.frame.specs.declared.Reading.the-variants.{Sound}
-use Rattle.frame.proofs.Laws.{length-data, short-data}
-use Rattle.tm32_asks.specs.Request.{crcStart, readAs, requestIn}
+use Rattle.frame.specs.declared.Reading.the-variants.{Sound, Spoiled}
+use Rattle.frame.proofs.Laws.{length-data, read-second, short-data}
+use Rattle.tm32_asks.specs.Request.{crcStart, readingResult, requestIn, requestOf}
+use Rattle.tm32_asks.specs.declared.Request.the-variants.{Misshapen}
 use Rattle.tm32_asks.proofs.requests.request_in.Statement.{statement}
 use Rattle.tm32_asks.proofs.requests.request_in.Tie as tie
 
@@ -20,6 +20,15 @@ message c = now (c .before .before .args .message)
 -- a message that was read as sound
 sound : (c : tie.After-second) → let told = c .second .given .0 in reading crcStart (message (c .before .before)) ≡ Sound (told .0) (told .1 .0)
 sound c = sym (c .before .before .read .ensures) ∙ c .second .given .1
+
+-- what the message asks for, by what the reader answers
+sound-asks : (bytes : List ℕ) (second size : ℕ) → reading crcStart bytes ≡ Sound second size → requestOf second (dataOf bytes) ≡ requestIn bytes
+unfolding requestIn readingResult
+sound-asks bytes second size is = rw (is, read-second crcStart bytes second size is)
+
+spoiled-asks : (bytes : List ℕ) (place : ℕ) → reading crcStart bytes ≡ Spoiled place → Misshapen ≡ requestIn bytes
+unfolding requestIn readingResult
+spoiled-asks bytes place is = rw is
 
 read-requires : tie.Need-read-requires
 read-requires c κs = search needs
@@ -45,16 +54,15 @@ enum-told : tie.Need-enum-told
 enum-told c = search needs
 
 returns : tie.Need-returns
-unfolding requestIn readAs
 returns c =
     let known = c .before in
-    c .request-of .ensures ∙ ap₂ readAs (sym (sound (known .before .before))) (known .data-of .ensures)
+    let read = known .before .before in
+    c .request-of .ensures ∙ ap (requestOf _) (known .data-of .ensures) ∙ sound-asks (message (read .before .before)) _ _ (sound read)
 
 returns-2 : tie.Need-returns-2
-unfolding requestIn readAs
 returns-2 c =
     let read = c .before .before in
-    ap (λ (read-as : Reading). readAs read-as (dataOf (message read))) (sym (c .enum-told .given .1) ∙ read .read .ensures)
+    spoiled-asks (message read) _ (sym (read .read .ensures) ∙ c .enum-told .given .1)
 
 pub request-in-spec : {M : Type 1} → statement M
 request-in-spec =
