@@ -42,7 +42,7 @@ module _ (ends : Bool) (tape : List ℕ) where
       simp (ne-eqb (length tape) 0 some, le-ltb (length tape) headLength whole) (by-body (ltb (length tape) (headLength + wordAt tape 0)) (wordAt tape 0) (wordAt tape 2))
 
   -- a message is one by what is known of it
-  message-is : (size : ℕ) → MessageAt tape size → nextIn ends tape ≡ Message size
+  pub message-is : (size : ℕ) → MessageAt tape size → nextIn ends tape ≡ Message size
   message-is size at =
       let whole : headLength + wordAt tape 0 ≤ length tape = rw (← at .said) (at .whole) in
       let short : wordAt tape 0 ≤ mostBody = rw (← at .said) (at .short) in

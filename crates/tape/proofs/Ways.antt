@@ -1,20 +1,21 @@
 -- Document 01, "The bench tape": the ways that a tape goes, whatever the room for records is. Room only decides where the player stops for want of it.
 use Prim.Native.Nat.{ℕ, zero, suc, _+_, _≤_, _<_}
 use mathlib.Core.Bool.{Bool, true, false, not, true≢false}
-use mathlib.Core.List.{List}
-use mathlib.Core.Path.{_≡_, refl, sym, ap, _∙_}
+use mathlib.Core.List.{List, [], _∷_}
+use mathlib.Core.Path.{_≡_, refl, sym, ap, subst, _∙_}
 use native.Mathlib.Nat.{le-refl}
 use native.Mathlib.Omega.{arith}
 use borrow.Author.Tests.{ltb-false, ltb-true}
 use lib.Dec.{eqb, ltb}
 use lib.ListN.{length, drop, length-drop}
+use Rattle.frame.specs.Frame.{wordAt}
 use Rattle.tm32.specs.After.{Told, noReply, replied, replyRoom, tell}
 use Rattle.tm32.specs.Device.{Device}
 use Rattle.tm32.specs.declared.Settings.{Settings}
 use Rattle.tm32_asks.proofs.Accepted.{of-both}
 use Rattle.tape.specs.Play.{Playing, behind, closing, playTape, recordRoom, replyKind, stopped}
 use Rattle.tape.specs.Records.{bodyIn, headLength, recordIn, recordOf}
-use Rattle.tape.specs.Script.{cut, cutShort, judged, messageKind, mostBody, nextIn, nextOf}
+use Rattle.tape.specs.Script.{Script, bodyTooLong, cut, cutShort, headed, judged, messageKind, mostBody, nextIn, nextOf, scriptFrom, unknownKind}
 use Rattle.tape.specs.declared.Found.{Found}
 use Rattle.tape.specs.declared.Found.the-variants.{Nothing, HeadCut, BodyCut, Whole}
 use Rattle.tape.specs.declared.Next.{Next}
@@ -137,31 +138,54 @@ module _ (settings : Settings) (ends : Bool) where
       let rests : rest ≡ rest′ = one-way goes (rw same at goes′) roomy roomy′ in
       cc
 
--- ---- no tape is refused for its records
+-- ---- why a tape stops by itself
+
+-- What holds of a wish for more, of the end and of every error holds of each stop that a tape has by itself.
+module _ (P : Stop → Type 0) (more : P MoreTape) (end : P End) (error : (number : ℕ) → P (Error number)) where
+  -- That it holds of what stands at the start of a tape, where that is a stop.
+  abbrev Holds : Next → Type 0
+  Holds (Message size) = Unit {0}
+  Holds (Over stop) = P stop
+
+  -- a head that is judged
+  judged-holds : (size kind : ℕ) (next : Next) → Holds next → Holds (judged size kind next)
+  judged-holds size kind next holds = of-both Holds (ltb mostBody size) (error bodyTooLong) (of-both Holds (not (eqb kind messageKind)) (error unknownKind) holds)
+
+  -- any record
+  next-holds : (ends : Bool) (found : Found) → Holds (nextOf ends found)
+  unfolding nextOf
+  next-holds ends Nothing = of-both P ends end more
+  next-holds ends HeadCut = of-both P ends (error cutShort) more
+  next-holds ends (BodyCut size kind) = judged-holds size kind (cut ends (Error cutShort)) (of-both P ends (error cutShort) more)
+  next-holds ends (Whole size kind) = judged-holds size kind (Message size) tt
+
+  -- so of the stop where no message stands
+  pub over-stops : (ends : Bool) (tape : List ℕ) (stop : Stop) → nextIn ends tape ≡ Over stop → P stop
+  over-stops ends tape stop is = subst Holds is (next-holds ends (recordIn tape))
+
+  -- a record before the rest of a tape
+  headed-holds : (tape : List ℕ) (rest : Script) (next : Next) → P (rest .stop) → Holds next → P (headed tape rest next .stop)
+  unfolding headed
+  headed-holds tape rest (Message size) behind holds = behind
+  headed-holds tape rest (Over stop) behind holds = holds
+
+  -- and so of the stop behind its messages
+  pub script-stops : (ends : Bool) (passed : ℕ) (tape : List ℕ) → P (scriptFrom ends passed tape .stop)
+  unfolding scriptFrom
+  script-stops ends (suc passed) (byte ∷ tape) = script-stops ends passed tape
+  script-stops ends zero (byte ∷ tape) =
+      headed-holds (byte ∷ tape) _ (nextIn ends (byte ∷ tape)) (script-stops ends (3 + wordAt (byte ∷ tape) 0) tape) (next-holds ends (recordIn (byte ∷ tape)))
+  script-stops ends passed [] = of-both P ends end more
 
 -- Whether the player stops as for a refused message.
-abbrev refuses : Next → Bool
-refuses (Message size) = false
-refuses (Over MoreTape) = false
-refuses (Over Room) = false
-refuses (Over End) = false
-refuses (Over (Error number)) = false
-refuses (Over (Refused number)) = true
-
--- a head that is judged, of which the rest does not
-judged-refuses : (size kind : ℕ) (next : Next) → refuses next ≡ false → refuses (judged size kind next) ≡ false
-judged-refuses size kind next none =
-    of-both (λ (said : Next). refuses said ≡ false) (ltb mostBody size) refl (of-both (λ (said : Next). refuses said ≡ false) (not (eqb kind messageKind)) refl none)
-
--- no record does
-none-refuses : (ends : Bool) (found : Found) → refuses (nextOf ends found) ≡ false
-unfolding nextOf
-none-refuses ends Nothing = of-both (λ (stop : Stop). refuses (Over stop) ≡ false) ends refl refl
-none-refuses ends HeadCut = of-both (λ (stop : Stop). refuses (Over stop) ≡ false) ends refl refl
-none-refuses ends (BodyCut size kind) =
-    judged-refuses size kind (cut ends (Error cutShort)) (of-both (λ (stop : Stop). refuses (Over stop) ≡ false) ends refl refl)
-none-refuses ends (Whole size kind) = judged-refuses size kind (Message size) refl
+abbrev refuses : Stop → Bool
+refuses MoreTape = false
+refuses Room = false
+refuses End = false
+refuses (Error number) = false
+refuses (Refused number) = true
 
 -- where no message stands at the start of a tape, the stop is no refusal
 pub over-unrefused : (ends : Bool) (tape : List ℕ) (stop : Stop) (number : ℕ) → nextIn ends tape ≡ Over stop → ¬ (stop ≡ Refused number)
-over-unrefused ends tape stop number is same = true≢false (sym (ap refuses (is ∙ ap Over same)) ∙ none-refuses ends (recordIn tape))
+over-unrefused ends tape stop number is same =
+    true≢false (sym (ap refuses same) ∙ over-stops (λ (why : Stop). refuses why ≡ false) refl refl (λ told. refl) ends tape stop is)

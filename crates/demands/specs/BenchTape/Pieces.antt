@@ -1,35 +1,24 @@
 -- Document 01, "The bench tape": lemmas for the tape. A tape that goes on behind a cut, one that is played in turns, and pieces of a tape go a way of the whole.
-use Prim.Native.Nat.{ℕ, _+_, _≤_}
+use Prim.Native.Nat.{ℕ, _+_}
 use mathlib.Core.Bool.{Bool, true, false, cond, false≢true, true≢false}
 use mathlib.Core.List.{List, [], _∷_, _++_, append-assoc, append-nil}
 use mathlib.Core.Path.{_≡_, refl, sym, ap, _∙_}
 use native.Mathlib.Nat.{add-assoc, zero-add}
-use native.Mathlib.Omega.{arith}
-use borrow.Author.Tests.{le-ltb}
-use lib.ListN.{length, drop}
+use lib.ListN.{drop}
 use lib.Seq.{drop-drop}
-use Rattle.frame.specs.Frame.{wordAt}
 use Rattle.tm32.specs.Device.{Device}
 use Rattle.tm32.specs.declared.Settings.{Settings}
 use Rattle.tm32_asks.proofs.Accepted.{of-test}
 use Rattle.tape.specs.Play.{Playing, behind, closing, playTape, recordRoom}
 use Rattle.tape.specs.Records.{headLength}
-use Rattle.tape.specs.Script.{nextIn}
 use Rattle.tape.specs.declared.Stop.{Stop}
 use Rattle.tape.specs.declared.Stop.the-variants.{MoreTape, Room, End, Error, Refused}
-use Rattle.tape.proofs.Laws.{MessageAt, message-stands}
-use Rattle.tape.proofs.Longer.{body-longer, head-judged, message-longer, over-longer, rest-longer}
+use Rattle.tape.proofs.Laws.{message-stands}
+use Rattle.tape.proofs.Longer.{body-longer, message-is, message-longer, over-longer, rest-longer}
 use Rattle.tape.proofs.Ways.{Goes, cramped, goes-so, onward, over, refused}
 use Rattle.demands.specs.BenchTape.InPieces.{Piece, allOf, inPieces, isRoom, playingOn, wants}
 
 -- ---- a tape that goes on
-
--- a message stands on a tape whether or not the input ends behind it
-pub message-either : (ends : Bool) (tape : List ℕ) (size : ℕ) → MessageAt tape size → nextIn false tape ≡ nextIn ends tape
-message-either ends tape size at =
-    let whole : headLength + wordAt tape 0 ≤ length tape = omega arith in
-    let head : headLength ≤ length tape = omega arith in
-    rw (head-judged false tape head, head-judged ends tape head, le-ltb (length tape) (headLength + wordAt tape 0) whole)
 
 module _ (settings : Settings) (ends : Bool) (more : List ℕ) where
   -- a tape without a message, by why the player stopped
@@ -50,7 +39,7 @@ module _ (settings : Settings) (ends : Bool) (more : List ℕ) where
   goes-on rest cramped waits goes = rw zero-add goes
   goes-on rest (refused size number is says) waits goes = absurd (false≢true waits)
   goes-on {early} {device} {tape} rest (onward size bytes next said says begun) waits goes =
-      let is = message-either early tape size (message-stands early tape size said) ∙ said in
+      let is = message-is false tape size (message-stands early tape size said) in
       let behind-next = goes-on rest begun waits (rw drop-drop goes) in
       rw (add-assoc (headLength + size) (next .used) (rest .used), append-assoc)
       (onward {device = device} size bytes (behind (next .used) (next .records) rest) (message-longer tape more size is ends) (rw (body-longer tape more size is) says)

@@ -1,57 +1,28 @@
 -- Document 01, "The bench tape": lemmas for the tape. The player stops for want of room only where it was lent too little. No tape asks it to; room for a record of each message, and one more, is enough; and
 -- with room for one record it stops so only once it has played a message.
-use Prim.Native.Nat.{ℕ, zero, suc, _+_, _*_, _≤_, _<_}
-use mathlib.Core.Bool.{Bool, true, false, cond, not, false≢true, true≢false}
+use Prim.Native.Nat.{ℕ, suc, _+_, _*_, _≤_, _<_}
+use mathlib.Core.Bool.{Bool, true, false, false≢true, true≢false}
 use mathlib.Core.List.{List, [], _∷_}
 use mathlib.Core.Path.{_≡_, refl, sym, ap, _∙_}
 use native.Mathlib.Omega.{arith}
 use borrow.Author.Tests.{le-ltb}
-use lib.Dec.{eqb, ltb}
 use lib.ListN.{length}
-use Rattle.frame.specs.Frame.{wordAt}
 use Rattle.tm32.specs.After.{Told, noReply, replied, replyRoom, tell}
 use Rattle.tm32.specs.Device.{Device}
 use Rattle.tm32.specs.declared.Settings.{Settings}
-use Rattle.tm32_asks.proofs.Accepted.{of-both}
 use Rattle.tape.specs.Play.{Playing, closing, onward, play, playTape, recordRoom, replyLength}
-use Rattle.tape.specs.Records.{headLength, recordIn}
-use Rattle.tape.specs.Script.{Script, cutShort, headed, messageKind, mostBody, nextOf, scriptFrom, scriptOf}
-use Rattle.tape.specs.declared.Found.{Found}
-use Rattle.tape.specs.declared.Found.the-variants.{Nothing, HeadCut, BodyCut, Whole}
+use Rattle.tape.specs.Records.{headLength}
+use Rattle.tape.specs.Script.{scriptOf}
 use Rattle.tape.specs.declared.Stop.{Stop}
 use Rattle.tape.specs.declared.Stop.the-variants.{MoreTape, Room, End, Error, Refused}
+use Rattle.tape.proofs.Ways.{script-stops}
 use Rattle.demands.specs.BenchTape.InPieces.{isRoom, messageCount}
 use Rattle.demands.specs.Demand2.Besides.{reply-fits}
 use Rattle.demands.specs.Demand2.Replies.{Sized}
 
--- ---- no tape asks for room
-
--- what is so of three is so of the one that two tests choose
-of-three : {A : Type 0} (P : A → Type 0) (first second : Bool) {x y z : A} → P x → P y → P z → P (cond first x (cond second y z))
-of-three P first second px py pz = of-both P first px (of-both P second py pz)
-
--- where the stop at the end of the input is none for want of room, neither is the one that takes its place if the input goes on
-cut-unroomed : (ends : Bool) (stop : Stop) → isRoom stop ≡ false → isRoom (cond ends stop MoreTape) ≡ false
-cut-unroomed ends stop none = of-both (λ (one : Stop). isRoom one ≡ false) ends none refl
-
--- where the stop behind the rest of a tape is none, neither is it with a record before that
-headed-unroomed : (tape : List ℕ) (rest : Script) (ends : Bool) (found : Found) → isRoom (rest .stop) ≡ false → isRoom (headed tape rest (nextOf ends found) .stop) ≡ false
-unfolding headed nextOf
-headed-unroomed tape rest ends Nothing none = cut-unroomed ends End refl
-headed-unroomed tape rest ends HeadCut none = cut-unroomed ends (Error cutShort) refl
-headed-unroomed tape rest ends (BodyCut size kind) none =
-    of-three (λ next. isRoom (headed tape rest next .stop) ≡ false) (ltb mostBody size) (not (eqb kind messageKind)) refl refl
-    (cut-unroomed ends (Error cutShort) refl)
-headed-unroomed tape rest ends (Whole size kind) none =
-    of-three (λ next. isRoom (headed tape rest next .stop) ≡ false) (ltb mostBody size) (not (eqb kind messageKind)) refl refl none
-
--- so none of a tape is
-script-unroomed : (ends : Bool) (passed : ℕ) (tape : List ℕ) → isRoom (scriptFrom ends passed tape .stop) ≡ false
-unfolding scriptFrom
-script-unroomed ends (suc passed) (byte ∷ tape) = script-unroomed ends passed tape
-script-unroomed ends zero (byte ∷ tape) =
-    headed-unroomed (byte ∷ tape) (scriptFrom ends (3 + wordAt (byte ∷ tape) 0) tape) ends (recordIn (byte ∷ tape)) (script-unroomed ends (3 + wordAt (byte ∷ tape) 0) tape)
-script-unroomed ends passed [] = cut-unroomed ends End refl
+-- no tape asks for room by itself
+unroomed : (ends : Bool) (tape : List ℕ) → isRoom (scriptOf ends tape .stop) ≡ false
+unroomed ends tape = script-stops (λ (why : Stop). isRoom why ≡ false) refl refl (λ number. refl) ends 0 tape
 
 -- ---- a play with room enough
 
@@ -92,7 +63,7 @@ module _ (settings : Settings) (sized : Sized settings) where
       → ¬ (playTape settings device ends room tape .stop ≡ Room)
   unfolding playTape
   tape-roomy device ends room tape large short =
-      true≢false (sym (ap isRoom short) ∙ play-roomy (scriptOf ends tape .stop) (script-unroomed ends 0 tape) (scriptOf ends tape .messages) device room large)
+      true≢false (sym (ap isRoom short) ∙ play-roomy (scriptOf ends tape .stop) (unroomed ends tape) (scriptOf ends tape .messages) device room large)
 
 -- ---- a play that stops for want of room
 
@@ -116,4 +87,4 @@ pub tape-uses : (settings : Settings) (device : Device) (ends : Bool) (room : �
     → 0 < playTape settings device ends room tape .used
 unfolding playTape
 tape-uses settings device ends room tape large short =
-    play-uses settings (scriptOf ends tape .stop) device room (scriptOf ends tape .messages) (script-unroomed ends 0 tape) large short
+    play-uses settings (scriptOf ends tape .stop) device room (scriptOf ends tape .messages) (unroomed ends tape) large short

@@ -15,10 +15,9 @@ use Rattle.tape.specs.Script.{Script}
 use Rattle.tape.specs.declared.Stop.{Stop}
 use Rattle.tape.specs.declared.Stop.the-variants.{Room}
 use Rattle.tape.proofs.Laws.{message-stands, next-message}
-use Rattle.tape.proofs.Longer.{message-longer, rest-longer}
+use Rattle.tape.proofs.Longer.{message-is, message-longer, rest-longer}
 use Rattle.tape.proofs.Ways.{Goes, closing-stop, cramped, goes-so, onward, over, refused}
 use Rattle.demands.specs.BenchTape.InPieces.{Piece, Roomy, allOf, inPieces, isRoom, messageCount, noTurn, playingOn, turn, wants}
-use Rattle.demands.specs.BenchTape.Pieces.{message-either}
 use Rattle.demands.specs.BenchTape.RoomEnough.{tape-uses}
 
 -- ---- the messages that are left
@@ -31,7 +30,7 @@ module _ (settings : Settings) (ends : Bool) (more : List ℕ) where
   messages-left cramped = omega arith
   messages-left (refused size number is says) = omega arith
   messages-left {early} {device} {tape} (onward size bytes next said says begun) =
-      let is = message-either early tape size (message-stands early tape size said) ∙ said in
+      let is = message-is false tape size (message-stands early tape size said) in
       let counted = ap (λ (script : Script). length (script .messages)) (next-message ends (tape ++ more) size (message-longer tape more size is ends)) in
       let left = messages-left begun in
       rw (counted, rest-longer tape more size is, ← drop-drop (next .used) (headLength + size) tape) (omega arith)
