@@ -156,11 +156,6 @@ pub answer-clears-the-rest : after freshSettings freshDevice handshake (replicat
 unfolding hex after lay laid tell callChecks verdict respond greet same freshDevice freshFlash freshRam freshNvr freshOptions replaced word fromOneTo
 answer-clears-the-rest is = true≢false (ap (λ (buffer : List ℕ). eqb (getD buffer 1 0) 0x11) is)
 
--- answer: the handshake is answered, and the session goes on Waiting
-pub handshake-keeps-waiting : after freshSettings freshDevice handshake (replicate 1040 0x11) .device ≢ freshDevice
-unfolding hex after lay tell callChecks verdict respond greet same freshDevice freshFlash freshRam freshNvr freshOptions replaced word fromOneTo
-handshake-keeps-waiting is = false≢true (ap (λ (device : Device). isWaiting (device .session .state)) is)
-
 -- start: ready for frames before the handshake
 pub start-talks-at-once : start Uart ≢ sessionOf Talking Uart 0x0A
 start-talks-at-once is = true≢false (ap (λ (session : Session). isWaiting (session .state)) is)
