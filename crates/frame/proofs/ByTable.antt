@@ -14,6 +14,7 @@ use lib.Bits.{bitXor, differ, xor-block, xor-comm, xor-mod, xor-shifted, xor-shr
 use lib.Dec.{ltb, lit<}
 use lib.Pow.{pow-pos}
 use Rattle.frame.specs.Crc.{polynomial, shifted, bitDone, bitsDone, byteDone}
+use Rattle.frame.proofs.Sums.{shifted-fits}
 
 -- ---- exclusive or with two numbers, in either order
 
@@ -40,10 +41,6 @@ xor-swap (suc k) a b c a-fits b-fits c-fits =
     omega (arith, lowest a b c, lowest a c b)
 
 -- ---- what lies low moves up
-
-shifted-fits : (a : ℕ) → shifted a < 2 ^ 16
-unfolding shifted
-shifted-fits a = omega arith
 
 shifted-apart : (a b : ℕ) → b < 2 ^ 15 → shifted (bitXor a b) ≡ bitXor (shifted a) (b * 2)
 unfolding shifted

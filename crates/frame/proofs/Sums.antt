@@ -1,5 +1,5 @@
 -- A running value fits 16 bits. After one byte it does so whatever stood there before.
-use Prim.Native.Nat.{ℕ, zero, suc, _*_, _%_, _^_, _<_}
+use Prim.Native.Nat.{ℕ, zero, suc, _^_, _<_}
 use mathlib.Core.Bool.{Bool, true, false, cond}
 use mathlib.Core.List.{List, [], _∷_}
 use native.Mathlib.Omega.{arith}
@@ -11,10 +11,14 @@ either-fits : (test : Bool) (a b k : ℕ) → a < 2 ^ k → b < 2 ^ k → cond t
 either-fits true a b k fits fits′ = fits
 either-fits false a b k fits fits′ = fits′
 
+pub shifted-fits : (value : ℕ) → shifted value < 2 ^ 16
+unfolding shifted
+shifted-fits value = omega arith
+
 bit-fits : (value : ℕ) → bitDone value < 2 ^ 16
-unfolding bitDone shifted polynomial
+unfolding bitDone polynomial
 bit-fits value =
-    let up : value * 2 % 2 ^ 16 < 2 ^ 16 = omega arith in
+    let up = shifted-fits value in
     either-fits (ltb value 0x8000) (shifted value) (bitXor (shifted value) polynomial) 16 up (xor-lt 16 (shifted value) polynomial up (lit< tt))
 
 bits-fit : (count value : ℕ) → value < 2 ^ 16 → bitsDone count value < 2 ^ 16
