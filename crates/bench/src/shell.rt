@@ -6,6 +6,7 @@ use tape::Begun;
 use tape::Played;
 use tape::Stop;
 use tm32::Session;
+use tm32::Settings;
 ghost use Prim.Native.Nat.{_+_, _-_, _≤_, _<_};
 ghost use mathlib.Core.Path.{_≡_};
 ghost use lib.ListN.{length};
@@ -20,8 +21,9 @@ pub(crate) struct Bench {
     on: bool,
 }
 
-// Plays all of standard input.
+// Plays all of standard input on a fresh device with some settings.
 pub(crate) fn run(
+    settings: Settings,
     flash: &mut [u8],
     ram: &mut [u8],
     nvr: &mut [u8],
@@ -31,7 +33,7 @@ pub(crate) fn run(
     requires { ⌜ 4096 ≤ length (now block) ⌝ }
 {
     match tape::fresh(flash, ram, nvr) {
-        Begun::Ready { session } => play_all(session, flash, ram, nvr, block, replies),
+        Begun::Ready { session } => play_all(session, settings, flash, ram, nvr, block, replies),
         Begun::Refused { number: _ } => complain(
             b"bench: the device's memory has another length\n",
         ),
@@ -42,6 +44,7 @@ pub(crate) fn run(
 // counted down, from a number that no run uses up.
 fn play_all(
     session: Session,
+    settings: Settings,
     flash: &mut [u8],
     ram: &mut [u8],
     nvr: &mut [u8],
@@ -60,7 +63,7 @@ fn play_all(
     let mut turns = u64::MAX;
     while turns > 0 {
         turns -= 1;
-        bench = turn(bench, flash, ram, nvr, block, replies);
+        bench = turn(bench, settings, flash, ram, nvr, block, replies);
         if !bench.on {
             return;
         }
@@ -70,6 +73,7 @@ fn play_all(
 // Plays what is held of the tape, writes what came of it, and sees to what the player asks for.
 fn turn(
     bench: Bench,
+    settings: Settings,
     flash: &mut [u8],
     ram: &mut [u8],
     nvr: &mut [u8],
@@ -82,7 +86,6 @@ fn turn(
     let session = bench.session;
     let from = bench.from;
     let held = bench.held;
-    let settings = tape::fresh_settings();
     let played = tape::play(
         session,
         settings,

@@ -8,21 +8,27 @@ use Rattle.tm32.specs.Device.{Device, deviceOf, memoryOf, sessionOf, withSessio
 use Rattle.tm32.specs.Fresh.{freshDevice, freshSettings}
 use Rattle.tm32.specs.declared.Answer.the-variants.{Reply}
 use Rattle.tm32_asks.specs.declared.Link.the-variants.{Uart}
+use Rattle.tm32.specs.declared.Settings.{Settings}
 use Rattle.tm32.specs.declared.State.{State}
 use Rattle.tm32.specs.declared.State.the-variants.{Talking, Waiting}
 use Rattle.cases.specs.Wire.{askWrite, first, handshake, noPages, off, options, second}
 
--- The device, the messages that prepare it, the message that is tried, the whole reply to it, and the whole device afterwards.
+-- The settings, the device, the messages that prepare it, the message that is tried, the whole reply to it, and the whole device afterwards.
 pub record Case : Type 0 where
+  pub settings : Settings
   pub device : Device
   pub before : List (List ℕ)
   pub message : List ℕ
   pub reply : List ℕ
   pub after : Device
 
--- The five put together.
+-- The six put together; and with the settings of the fresh device.
+abbrev pub caseWith : Settings → Device → List (List ℕ) → List ℕ → List ℕ → Device → Case
+caseWith settings device before message reply after =
+    record { settings = settings; device = device; before = before; message = message; reply = reply; after = after }
+
 abbrev pub case : Device → List (List ℕ) → List ℕ → List ℕ → Device → Case
-case device before message reply after = record { device = device; before = before; message = message; reply = reply; after = after }
+case = caseWith freshSettings
 
 -- The buffer that is lent for each reply: so long, and full of one byte.
 abbrev pub lentLength : ℕ
@@ -35,14 +41,14 @@ abbrev pub lentBuffer : List ℕ
 lentBuffer = replicate lentLength lentByte
 
 -- A device after some messages.
-unfoldable pub prepared : Device → List (List ℕ) → Device
-prepared device [] = device
-prepared device (message ∷ rest) = prepared (after freshSettings device message lentBuffer .device) rest
+unfoldable pub prepared : Settings → Device → List (List ℕ) → Device
+prepared settings device [] = device
+prepared settings device (message ∷ rest) = prepared settings (after settings device message lentBuffer .device) rest
 
 -- What the definitions make of each case: `after`, with which the contract of the device's code is an equation.
 unfoldable pub computed : List Case → List After
 computed [] = []
-computed (one ∷ rest) = after freshSettings (prepared (one .device) (one .before)) (one .message) lentBuffer ∷ computed rest
+computed (one ∷ rest) = after (one .settings) (prepared (one .settings) (one .device) (one .before)) (one .message) lentBuffer ∷ computed rest
 
 -- What is right: the whole device, the length of the reply, and the whole buffer, in which nothing changed behind the reply.
 unfoldable pub expected : List Case → List After

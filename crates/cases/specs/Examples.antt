@@ -73,9 +73,9 @@ pub last-addresses :
     ≡ 0x08007FFF ∷ 0x20003FFF ∷ 0x1FFF17FF ∷ 0x1FFF17FF ∷ []
 last-addresses = refl
 
--- What Get tells where all settings differ: version 01 02, serial 11 to 1C, package 21, model 22, links 0x34333231.
+-- What Get tells where all settings differ: version 01 02, serial 11 to 1C, package 21, model 22, links 0x34333231. Of the start value, 0x5678, it tells nothing.
 pub information-told :
-    information (record { version = 0x01 ∷ 0x02 ∷ []; serial = hex 12 0x1112131415161718191A1B1C; «package» = 0x21; model = 0x22; links = 0x34333231 })
+    information (record { version = 0x01 ∷ 0x02 ∷ []; serial = hex 12 0x1112131415161718191A1B1C; «package» = 0x21; model = 0x22; links = 0x34333231; start = 0x5678 })
     ≡ hex 24 0x01021112131415161718191A1B1C2122FF01000031323334
 unfolding hex information long word commandWord toldCommands
 information-told = refl
@@ -106,26 +106,33 @@ refusals-in-order = refl
 
 -- What reads or writes the option bytes of a device that Talks: 0x31, 0x32, and a Read that touches them. A Read beside them does not, nor one that is too long to be served.
 pub touching-the-options :
-    map (λ (one : List ℕ). optionMessage (withSession freshDevice (sessionOf Talking Uart 0x0A)) one 1030)
+    map (λ (one : List ℕ). optionMessage 0 (withSession freshDevice (sessionOf Talking Uart 0x0A)) one 1030)
     (askWriteOptions off ∷ askReadOptions ∷ askRead 0x1FFF07FF 1 ∷ askRead 0x1FFF07FF 2 ∷ askRead 0x1FFF0815 1 ∷ askRead 0x1FFF0816 1 ∷ askRead 0x1FFF0800 1025 ∷ heartBeat ∷ [])
     ≡ true ∷ true ∷ false ∷ true ∷ true ∷ false ∷ false ∷ false ∷ []
 unfolding hex little message halfwords options freshDevice freshFlash freshRam freshNvr freshOptions replaced callChecks verdict optionMessage isTalking touchesOptions readsOptions within requestIn readingResult requestOf exactly longAt reading wordAt dataOf frame covered word crc byteDone bitsDone bitDone shifted polynomial fromOneTo
 touching-the-options = refl
 
 -- A device that Waits reads none of them, and no message does where the room for the reply is too small.
-pub nothing-while-waiting : map (λ (one : List ℕ). optionMessage freshDevice one 1030) (askWriteOptions off ∷ askReadOptions ∷ askRead 0x1FFF0800 1 ∷ []) ≡ false ∷ false ∷ false ∷ []
+pub nothing-while-waiting : map (λ (one : List ℕ). optionMessage 0 freshDevice one 1030) (askWriteOptions off ∷ askReadOptions ∷ askRead 0x1FFF0800 1 ∷ []) ≡ false ∷ false ∷ false ∷ []
 unfolding freshDevice freshFlash freshRam freshNvr freshOptions replaced word callChecks verdict optionMessage isTalking fromOneTo
 nothing-while-waiting = refl
 
-pub nothing-without-room : optionMessage (withSession freshDevice (sessionOf Talking Uart 0x0A)) askReadOptions 1029 ≡ false
+pub nothing-without-room : optionMessage 0 (withSession freshDevice (sessionOf Talking Uart 0x0A)) askReadOptions 1029 ≡ false
 unfolding freshDevice freshFlash freshRam freshNvr freshOptions replaced word callChecks verdict optionMessage fromOneTo
 nothing-without-room = refl
+
+-- Where a CRC starts from 0xFFFF the same messages, which start from 0, read or write nothing, and Read options from 0xFFFF does.
+pub touching-from-ones :
+    map (λ (one : List ℕ). optionMessage 0xFFFF (withSession freshDevice (sessionOf Talking Uart 0x0A)) one 1030) (askWriteOptions off ∷ askReadOptions ∷ hex 6 0x2D320000CD21 ∷ [])
+    ≡ false ∷ false ∷ true ∷ []
+unfolding hex little message halfwords options freshDevice freshFlash freshRam freshNvr freshOptions replaced callChecks verdict optionMessage isTalking touchesOptions requestIn readingResult requestOf exactly reading wordAt dataOf frame covered word crc byteDone bitsDone bitDone shifted polynomial fromOneTo
+touching-from-ones = refl
 
 -- A handshake, a heart beat with too little room, one with enough, and one more after a restart on SPI.
 pub a-short-run :
     run freshSettings freshDevice (sent handshake 1030 ∷ sent heartBeat 1029 ∷ sent heartBeat 1030 ∷ restarted Spi ∷ sent heartBeat 1030 ∷ []) .told
     ≡ replied shaken ∷ noReply 4 ∷ replied done ∷ replied (hex 6 0x2D8000009235) ∷ []
-unfolding hex run tell callChecks verdict respond greet serve replyTo refuse verdictOn checks protections work requestIn readingResult requestOf exactly reading wordAt dataOf frame covered word crc byteDone bitsDone bitDone shifted polynomial same freshDevice freshFlash freshRam freshNvr freshOptions replaced fromOneTo
+unfolding hex run tell callChecks verdict respond greet serve replyTo refuse verdictOn checks protections work requestIn readingResult requestOf exactly reading wordAt dataOf frame covered word crc byteDone bitsDone bitDone shifted polynomial same freshDevice freshFlash freshRam freshNvr freshOptions freshSettings replaced fromOneTo
 a-short-run = refl
 
 -- The reply lies over the start of the buffer, and the rest of it is as it came.

@@ -50,7 +50,7 @@ stores-nothing-replies-right settings device message buffer = (refl, refl, refl)
 
 -- The memory after a Write tells it apart.
 pub stores-nothing-differs : storesNothing freshSettings (blankDevice off) (put 0x3C) lentBuffer ≢ after freshSettings (blankDevice off) (put 0x3C) lentBuffer
-unfolding storesNothing little message halfwords options after tell callChecks lay respond serve replyTo verdictOn frame covered word crc byteDone bitsDone bitDone shifted polynomial reading wordAt dataOf requestIn readingResult requestOf writeIn longAt checks verdict protections writeChecks flashPages somePage someFrom covers touched within inUserRegion part replaced masked kept same inEither optionBytes work written fromOneTo
+unfolding storesNothing little message halfwords options after tell callChecks lay respond serve replyTo verdictOn frame covered word crc byteDone bitsDone bitDone shifted polynomial reading wordAt dataOf requestIn readingResult requestOf writeIn longAt checks verdict protections writeChecks flashPages somePage someFrom covers touched within inUserRegion part replaced masked kept same inEither optionBytes work written freshSettings fromOneTo
 stores-nothing-differs is = false≢true (ap (λ (outcome : After). eqb (byteOfPage1 outcome) 0x3C) is)
 
 -- ---- it applies a later message at the handshake
@@ -71,5 +71,5 @@ applies-early-replies-right later settings device message buffer =
 
 -- The memory after the handshake tells it apart.
 pub applies-early-differs : appliesEarly (put 0x3C) freshSettings freshDevice handshake lentBuffer ≢ after freshSettings freshDevice handshake lentBuffer
-unfolding appliesEarly hex little message halfwords options after tell callChecks lay respond greet serve replyTo verdictOn frame covered word crc byteDone bitsDone bitDone shifted polynomial reading wordAt dataOf requestIn readingResult requestOf writeIn longAt checks verdict protections writeChecks flashPages somePage someFrom covers touched within inUserRegion part replaced masked kept same inEither optionBytes work written freshDevice freshFlash freshRam freshNvr freshOptions fromOneTo
+unfolding appliesEarly hex little message halfwords options after tell callChecks lay respond greet serve replyTo verdictOn frame covered word crc byteDone bitsDone bitDone shifted polynomial reading wordAt dataOf requestIn readingResult requestOf writeIn longAt checks verdict protections writeChecks flashPages somePage someFrom covers touched within inUserRegion part replaced masked kept same inEither optionBytes work written freshDevice freshFlash freshRam freshNvr freshOptions freshSettings fromOneTo
 applies-early-differs is = true≢false (ap (λ (outcome : After). eqb (byteOfPage1 outcome) 0x3C) is)

@@ -17,7 +17,7 @@ use Rattle.memory.specs.declared.PageRun.{PageRun}
 use Rattle.tm32.specs.After.{after, callChecks, lay, tell}
 use Rattle.tm32_asks.specs.Checks.{checks, flashPages, isUart, protections, readChecks, verdict, writeChecks}
 use Rattle.tm32.specs.Device.{Device, restart, sessionOf, start}
-use Rattle.tm32.specs.Fresh.{freshDevice, freshFlash, freshNvr, freshOptions, freshRam, freshSettings}
+use Rattle.tm32.specs.Fresh.{freshDevice, freshFlash, freshNvr, freshOptions, freshRam, freshSettings, withStart}
 use Rattle.tm32_asks.specs.Map.{inFlash, inGoRegion, inNvr, inRam, inReadRegion, inUserRegion}
 use Rattle.tm32_asks.specs.Numbers.{fromOneTo, longAt}
 use Rattle.tm32_asks.specs.Options.{inEither, optionBytes, rdpOn}
@@ -29,6 +29,7 @@ use Rattle.tm32_asks.specs.declared.Link.the-variants.{Spi, Uart}
 use Rattle.tm32_asks.specs.declared.Request.{Request}
 use Rattle.tm32_asks.specs.declared.Request.the-variants.{HeartBeat}
 use Rattle.tm32.specs.declared.Session.{Session}
+use Rattle.tm32.specs.declared.Settings.{Settings}
 use Rattle.tm32.specs.declared.State.the-variants.{Talking, Waiting}
 use Rattle.cases.specs.Cases.{fullDevice, fullFlash, onBench, oneByte, pcrop5, prepared, rdpWrp7, wrp7}
 use Rattle.cases.specs.Wire.{askRead, askWrite, askWriteOptions, done, halfwords, handshake, hex, little, message, off, options}
@@ -90,14 +91,19 @@ nothing-touches-a-page is = true≢false (ap (λ (run : PageRun). eqb (run .coun
 -- ---- tm32_asks
 
 -- request_in: an unknown command is read as the one before it
-pub unknown-command-read : requestIn (message 0x42 []) ≢ HeartBeat
+pub unknown-command-read : requestIn 0 (message 0x42 []) ≢ HeartBeat
 unfolding message frame covered word crc byteDone bitsDone bitDone shifted polynomial reading wordAt dataOf requestIn readingResult requestOf checks
 unknown-command-read is = true≢false (ap (λ (request : Request). eqb (length (checks Uart request)) 1) is)
 
 -- request_in: data that the command does not take is passed over
-pub data-passed-over : requestIn (message 0x41 (0x55 ∷ [])) ≢ HeartBeat
+pub data-passed-over : requestIn 0 (message 0x41 (0x55 ∷ [])) ≢ HeartBeat
 unfolding message frame covered word crc byteDone bitsDone bitDone shifted polynomial reading wordAt dataOf requestIn readingResult requestOf exactly checks
 data-passed-over is = true≢false (ap (λ (request : Request). eqb (length (checks Uart request)) 1) is)
+
+-- request_in: a frame whose CRC starts from another value is read all the same
+pub other-start-read : requestIn 0xFFFF (message 0x41 []) ≢ HeartBeat
+unfolding message frame covered word crc byteDone bitsDone bitDone shifted polynomial reading wordAt dataOf requestIn readingResult requestOf exactly checks
+other-start-read is = true≢false (ap (λ (request : Request). eqb (length (checks Uart request)) 1) is)
 
 -- bytes_to_write: the last byte of the address is taken for the first of the data
 pub address-among-the-bytes : drop 5 (hex 7 0x0100040008A5A6) ≢ hex 3 0x08A5A6
@@ -186,6 +192,21 @@ pub rate-past-the-table : bitsPerSecond 0x11 ≢ 1382400
 unfolding bitsPerSecond fromOneTo
 rate-past-the-table is = true≢false (ap (eqb 0) is)
 
+-- starting_from: the start value stays what it was
+pub start-value-kept : withStart freshSettings 0xFFFF ≢ freshSettings
+unfolding freshSettings
+start-value-kept is = true≢false (ap (λ (settings : Settings). eqb (settings .start) 0xFFFF) is)
+
+-- starting_from: the links are lost
+pub links-lost : withStart freshSettings 0xFFFF .links ≢ 0
+unfolding freshSettings
+links-lost is = true≢false (ap (eqb 0x7F) is)
+
+-- answer: replies start from 0, whatever the setting
+pub reply-from-nought : respond (withStart freshSettings 0xFFFF) freshDevice (message 0x41 []) .reply ≢ hex 6 0x2D8000009235
+unfolding hex message respond same refuse frame covered word crc byteDone bitsDone bitDone shifted polynomial freshDevice freshSettings
+reply-from-nought is = true≢false (ap (same (hex 6 0x2D80000052B1)) is)
+
 -- answer: Go takes an address only where it is a multiple of 4
 pub jump-wants-alignment : inGoRegion 0x08000002 ≢ false
 unfolding within
@@ -193,14 +214,14 @@ jump-wants-alignment is = true≢false is
 
 -- answer: a write that does not read back as it was sent is taken back
 pub readback-rolls-back : respond freshSettings (onBench Talking (oneByte 0x0F) off) (askWrite 1 0x08000400 (0x3C ∷ [])) .device ≢ onBench Talking (oneByte 0x0F) off
-unfolding little message halfwords options respond serve replyTo verdictOn frame covered word crc byteDone bitsDone bitDone shifted polynomial reading wordAt dataOf requestIn readingResult requestOf writeIn longAt checks verdict protections writeChecks flashPages somePage someFrom covers touched within inUserRegion part replaced masked kept same inEither optionBytes work written fromOneTo
+unfolding little message halfwords options respond serve replyTo verdictOn frame covered word crc byteDone bitsDone bitDone shifted polynomial reading wordAt dataOf requestIn readingResult requestOf writeIn longAt checks verdict protections writeChecks flashPages somePage someFrom covers touched within inUserRegion part replaced masked kept same inEither optionBytes work written freshSettings fromOneTo
 readback-rolls-back is = true≢false (ap (λ (device : Device). eqb (getD (device .memory .flash) 1024 0) 0x0C) is)
 
 -- answer: a request is worked on before its checks are asked, so a refused write is written whole, on the write-protected page too
 pub refused-write-is-written :
     respond freshSettings (fullDevice wrp7) (askWrite 0 0x08001BFF (0x00 ∷ 0x00 ∷ [])) .device .memory .flash
     ≢ replicate 1024 0x5A ++ 0x0F ∷ replicate 4094 0x5A ++ 0x44 ∷ replicate 2047 0x5A ++ 0x00 ∷ 0x00 ∷ replicate 25598 0x5A ++ 0x3C ∷ []
-unfolding little message halfwords options respond serve verdictOn refuse frame covered word crc byteDone bitsDone bitDone shifted polynomial reading wordAt dataOf requestIn readingResult requestOf writeIn longAt checks verdict protections writeChecks flashPages somePage someFrom covers touched within inUserRegion part same inEither optionBytes fromOneTo
+unfolding little message halfwords options respond serve verdictOn refuse frame covered word crc byteDone bitsDone bitDone shifted polynomial reading wordAt dataOf requestIn readingResult requestOf writeIn longAt checks verdict protections writeChecks flashPages somePage someFrom covers touched within inUserRegion part same inEither optionBytes freshSettings fromOneTo
 refused-write-is-written is = true≢false (ap (λ (flash : List ℕ). eqb (getD flash 7167 0) 0x5A) is)
 
 -- answer: the wipe spares the pages under write protection
@@ -212,20 +233,20 @@ wipe-spares-protected is = true≢false is
 
 -- a write that ends in a write-protected page: the byte before that page is written
 pub free-part-written :
-    respond freshSettings (prepared (onBench Waiting (fullFlash 0x0F) off) (handshake ∷ askWriteOptions wrp7 ∷ [])) (askWrite 0 0x08001BFF (0x00 ∷ 0x00 ∷ [])) .device
+    respond freshSettings (prepared freshSettings (onBench Waiting (fullFlash 0x0F) off) (handshake ∷ askWriteOptions wrp7 ∷ [])) (askWrite 0 0x08001BFF (0x00 ∷ 0x00 ∷ [])) .device
     ≢ onBench Talking (replicate 1024 0x5A ++ 0x0F ∷ replicate 4094 0x5A ++ 0x44 ∷ replicate 2047 0x5A ++ 0x00 ∷ replicate 25599 0x5A ++ 0x3C ∷ []) wrp7
-unfolding prepared hex little message halfwords options after tell callChecks lay respond greet serve replyTo verdictOn refuse frame covered word crc byteDone bitsDone bitDone shifted polynomial reading wordAt dataOf requestIn readingResult requestOf writeIn exactly longAt checks verdict protections writeChecks flashPages somePage someFrom covers touched within inUserRegion part replaced same rdpOn inEither optionBytes wipes wiped withOptions work fromOneTo
+unfolding prepared hex little message halfwords options after tell callChecks lay respond greet serve replyTo verdictOn refuse frame covered word crc byteDone bitsDone bitDone shifted polynomial reading wordAt dataOf requestIn readingResult requestOf writeIn exactly longAt checks verdict protections writeChecks flashPages somePage someFrom covers touched within inUserRegion part replaced same rdpOn inEither optionBytes wipes wiped withOptions work freshSettings fromOneTo
 free-part-written is = true≢false (ap (λ (device : Device). eqb (getD (device .memory .flash) 7167 0) 0x5A) is)
 
 -- a Read that ends in a page under PCROP: it is answered with data, as from blank flash
 pub protected-page-read-as-blank :
-    respond freshSettings (prepared freshDevice (handshake ∷ askWriteOptions pcrop5 ∷ [])) (askRead 0x080013FF 2) .reply ≢ hex 8 0x2D900200FFFFA6AD
-unfolding prepared hex little message halfwords options after tell callChecks lay respond greet serve replyTo verdictOn refuse frame covered word crc byteDone bitsDone bitDone shifted polynomial reading wordAt dataOf requestIn readingResult requestOf exactly longAt checks verdict protections readChecks flashPages somePage someFrom covers touched within inReadRegion part replaced same rdpOn inEither optionBytes wipes wiped withOptions work freshDevice freshFlash freshRam freshNvr freshOptions fromOneTo
+    respond freshSettings (prepared freshSettings freshDevice (handshake ∷ askWriteOptions pcrop5 ∷ [])) (askRead 0x080013FF 2) .reply ≢ hex 8 0x2D900200FFFFA6AD
+unfolding prepared hex little message halfwords options after tell callChecks lay respond greet serve replyTo verdictOn refuse frame covered word crc byteDone bitsDone bitDone shifted polynomial reading wordAt dataOf requestIn readingResult requestOf exactly longAt checks verdict protections readChecks flashPages somePage someFrom covers touched within inReadRegion part replaced same rdpOn inEither optionBytes wipes wiped withOptions work freshDevice freshFlash freshRam freshNvr freshOptions freshSettings fromOneTo
 protected-page-read-as-blank is = true≢false (ap (same (hex 6 0x2D630000F3CC)) is)
 
 -- options that take read protection away: the page under write protection is not wiped
 pub protected-page-spared :
-    respond freshSettings (prepared (onBench Waiting (fullFlash 0x0F) off) (handshake ∷ askWriteOptions rdpWrp7 ∷ [])) (askWriteOptions wrp7) .device
+    respond freshSettings (prepared freshSettings (onBench Waiting (fullFlash 0x0F) off) (handshake ∷ askWriteOptions rdpWrp7 ∷ [])) (askWriteOptions wrp7) .device
     ≢ onBench Talking (replicate 7168 0xFF ++ replicate 1024 0x5A ++ replicate 24576 0xFF) wrp7
-unfolding prepared hex little message halfwords options after tell callChecks lay respond greet serve replyTo verdictOn frame covered word crc byteDone bitsDone bitDone shifted polynomial reading wordAt dataOf requestIn readingResult requestOf exactly checks verdict protections part replaced same rdpOn optionBytes erased wipes wiped withOptions work fromOneTo
+unfolding prepared hex little message halfwords options after tell callChecks lay respond greet serve replyTo verdictOn frame covered word crc byteDone bitsDone bitDone shifted polynomial reading wordAt dataOf requestIn readingResult requestOf exactly checks verdict protections part replaced same rdpOn optionBytes erased wipes wiped withOptions work freshSettings fromOneTo
 protected-page-spared is = true≢false (ap (λ (device : Device). eqb (getD (device .memory .flash) 7168 0) 0xFF) is)

@@ -23,7 +23,7 @@ use lib.ListN.{length}
 use Rattle.tm32.specs.After.{callChecks, replyRoom}
 use Rattle.tm32_asks.specs.Checks.{verdict}
 use Rattle.tm32.specs.Device.{Device}
-use Rattle.tm32.specs.Fresh.{freshDevice, freshSettings}
+use Rattle.tm32.specs.Fresh.{freshDevice, freshSettings, withStart}
 use Rattle.tm32_asks.specs.Options.{ProtectAll, optionBytes}
 use Rattle.tm32.specs.Run.{run}
 use Rattle.tm32.specs.declared.Settings.{Settings}
@@ -104,12 +104,20 @@ pub bench-tape : (rooms : List ℕ) (pieces : List Piece) → Roomy rooms → me
     → seenOf (inPieces freshSettings freshDevice [] rooms pieces) ≡ shown freshSettings freshDevice true (allOf pieces)
 bench-tape rooms pieces large many = whole-tape freshSettings freshDevice fresh-hears rooms pieces large many
 
+-- And so they do on the bench with any other start value of the CRC, whose settings have the same lengths.
+pub started-tape : (start : ℕ) (rooms : List ℕ) (pieces : List Piece) → Roomy rooms → messageCount true (allOf pieces) < length rooms
+    → seenOf (inPieces (withStart freshSettings start) freshDevice [] rooms pieces) ≡ shown (withStart freshSettings start) freshDevice true (allOf pieces)
+started-tape start rooms pieces large many = whole-tape (withStart freshSettings start) freshDevice fresh-hears rooms pieces large many
+
+pub started-sized : (start : ℕ) → Sized (withStart freshSettings start)
+started-sized start = record { version = fresh-sized .version; serial = fresh-sized .serial }
+
 -- ---- two tapes
 
 module _ (settings : Settings) (strict loose : Device) (alike : AlikeButOptions strict loose) (protects : ProtectAll (optionBytes (strict .memory .nvr)) (optionBytes (loose .memory .nvr))) where
-  -- Two devices, the first of which protects all that the second does, are alike but for their option bytes, and hear messages. A tape is played on the first. No message of it reads or writes the
-  -- option bytes. Another tape has the same messages but for those that the first device refuses for protection, ends as the first tape does, and is played on the second device. Then the two plays
-  -- agree, if neither stops for want of room. What room is enough, `room-enough` tells.
+  -- Two devices, the first of which protects all that the second does, are alike but for their option bytes, and hear messages. Both have the same settings, the CRC's start value among them. A tape is
+  -- played on the first. No message of it reads or writes the option bytes. Another tape has the same messages but for those that the first device refuses for protection, ends as the first tape does,
+  -- and is played on the second device. Then the two plays agree, if neither stops for want of room. What room is enough, `room-enough` tells.
   pub two-tapes : verdict 0 (callChecks strict replyRoom) ≡ 0
       → (ends : Bool) (tape other : List ℕ) (room otherRoom : ℕ)
       → sparesOptions settings strict (sentBy ends tape) ≡ true

@@ -21,7 +21,7 @@ use Rattle.tm32_asks.specs.Checks.{checksOf, noneFails, numbersOf}
 use Rattle.tm32.specs.Device.{Device}
 use Rattle.tm32.specs.OptionMessages.{isTalking}
 use Rattle.tm32_asks.specs.Options.{optionBytes}
-use Rattle.tm32_asks.specs.Request.{crcStart, requestIn}
+use Rattle.tm32_asks.specs.Request.{requestIn}
 use Rattle.tm32.specs.Respond.{refuse, replyTo, respond}
 use Rattle.tm32.specs.Work.{compared, work}
 use Rattle.tm32.specs.declared.Answer.the-variants.{Refused}
@@ -45,11 +45,11 @@ use Rattle.demands.specs.Messages.Ways.{NeitherEmptyNorHello, asked, bef
 
 module _ (settings : Settings) (device : Device) (message : List ℕ) (number : ℕ) (refusal : isRefusal number ≡ true) where
   -- a device that replies with a refusal is as it was
-  pub refused-stays : respond settings device message .reply ≡ frame crcStart number [] → respond settings device message .device ≡ device
+  pub refused-stays : respond settings device message .reply ≡ frame (settings .start) number [] → respond settings device message .device ≡ device
   refused-stays is = stays-way settings device message number refusal (respond settings device message) (heard-so settings device message) is
 
   -- and so it is where the call is told that reply, with any room
-  pub told-refused-stays : (room : ℕ) → tell settings device message room .told ≡ replied (frame crcStart number []) → tell settings device message room .device ≡ device
+  pub told-refused-stays : (room : ℕ) → tell settings device message room .told ≡ replied (frame (settings .start) number []) → tell settings device message room .device ≡ device
   told-refused-stays room is = stays-call settings device message number refusal room (tell settings device message room) (called settings device message room) is
 
 module _ (settings : Settings) (device : Device) (message : List ℕ) (number : ℕ) where
@@ -67,26 +67,27 @@ module _ (settings : Settings) (device : Device) (message : List ℕ) (number : 
 
 module _ (settings : Settings) (device : Device) (message : List ℕ) (number : ℕ) (payload : List ℕ) (refusal : isRefusal number ≡ true) where
   -- a device that replies with a refusal has its reason
-  pub refused-for : respond settings device message .reply ≡ frame crcStart number payload → Reason device message number
+  pub refused-for : respond settings device message .reply ≡ frame (settings .start) number payload → Reason (settings .start) device message number
   refused-for is = reason-way settings device message number payload refusal (respond settings device message) (heard-so settings device message) is
 
   -- and so it has where the call is told that reply
-  pub told-refused-for : (room : ℕ) → tell settings device message room .told ≡ replied (frame crcStart number payload) → Reason device message number
+  pub told-refused-for : (room : ℕ) → tell settings device message room .told ≡ replied (frame (settings .start) number payload) → Reason (settings .start) device message number
   told-refused-for room is =
-      reply-told settings device message room (λ (bytes : List ℕ). bytes ≡ frame crcStart number payload → Reason device message number) _ (λ known. refused-for) is refl
+      reply-told settings device message room (λ (bytes : List ℕ). bytes ≡ frame (settings .start) number payload → Reason (settings .start) device message number) _ (λ known. refused-for) is refl
 
 -- the other way round, each reason draws its refusal, and nothing changes
-pub reason-refuses : (settings : Settings) (device : Device) (message : List ℕ) (number : ℕ) → Reason device message number → respond settings device message ≡ refuse device number
+pub reason-refuses : (settings : Settings) (device : Device) (message : List ℕ) (number : ℕ) → Reason (settings .start) device message number
+    → respond settings device message ≡ refuse (settings .start) device number
 unfolding refuse replyTo work compared
 reason-refuses settings device message number (noHello asks waits) = before-hello settings device message asks waits
 reason-refuses settings device message number (failed asks talks first found) =
-    asked settings device message asks talks ∙ request-fails settings device (dataOf message) (requestIn message) first found
+    asked settings device message asks talks ∙ request-fails settings device (dataOf message) (requestIn (settings .start) message) first found
 reason-refuses settings device message number (differs asks talks pass address count wanted is other) =
-    asked settings device message asks talks ∙ request-passes settings device (dataOf message) (requestIn message) pass ∙ rw (is, other)
+    asked settings device message asks talks ∙ request-passes settings device (dataOf message) (requestIn (settings .start) message) pass ∙ rw (is, other)
 
 -- and so the call is told, where it passes its own checks
-pub told-reason-refuses : (settings : Settings) (device : Device) (message : List ℕ) (number room : ℕ) → noneFails (callChecks device room) ≡ true → Reason device message number
-    → tell settings device message room ≡ telling device (replied (frame crcStart number []))
+pub told-reason-refuses : (settings : Settings) (device : Device) (message : List ℕ) (number room : ℕ) → noneFails (callChecks device room) ≡ true → Reason (settings .start) device message number
+    → tell settings device message room ≡ telling device (replied (frame (settings .start) number []))
 unfolding refuse
 told-reason-refuses settings device message number room hears reason =
     rw (call-passes settings device message room hears, reason-refuses settings device message number reason)
@@ -107,11 +108,11 @@ in-order = of-numbers (λ numbers. follows numbers order ≡ true) refl refl ref
 
 module _ (settings : Settings) (device : Device) (message : List ℕ) (room : ℕ) where
   -- each of them draws 0x91 from a device that is Talking, in a call that passes its checks
-  pub shape-refused : noneFails (callChecks device room) ≡ true → isTalking (device .session .state) ≡ true → NeitherEmptyNorHello message → Misshapes message
-      → tell settings device message room ≡ telling device (replied (frame crcStart 0x91 []))
-  shape-refused hears talks asks is = told-reason-refuses settings device message 0x91 room hears (failed asks talks 0x91 (shape-fails device message is))
+  pub shape-refused : noneFails (callChecks device room) ≡ true → isTalking (device .session .state) ≡ true → NeitherEmptyNorHello message → Misshapes (settings .start) message
+      → tell settings device message room ≡ telling device (replied (frame (settings .start) 0x91 []))
+  shape-refused hears talks asks is = told-reason-refuses settings device message 0x91 room hears (failed asks talks 0x91 (shape-fails (settings .start) device message is))
 
   -- and nothing else does, from any device
-  pub refused-for-shape : (payload : List ℕ) → tell settings device message room .told ≡ replied (frame crcStart 0x91 payload) → Misshapes message
+  pub refused-for-shape : (payload : List ℕ) → tell settings device message room .told ≡ replied (frame (settings .start) 0x91 payload) → Misshapes (settings .start) message
   unfolding isRefusal isOneOf refusals
-  refused-for-shape payload is = reason-is-shape device message 0x91 refl (told-refused-for settings device message 0x91 payload refl room is)
+  refused-for-shape payload is = reason-is-shape (settings .start) device message 0x91 refl (told-refused-for settings device message 0x91 payload refl room is)

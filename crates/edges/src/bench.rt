@@ -12,6 +12,8 @@ use tm32::Turn;
 
 pub(crate) struct Bench {
     pub session: Session,
+    // What a CRC starts from.
+    pub start: u16,
     // How long the last reply was, or 01's number where there was none.
     pub length: usize,
     pub refusal: u8,
@@ -27,8 +29,10 @@ pub(crate) struct Bench {
 impl Bench {
     // A bench at its start, and for a new case.
     pub(crate) fn new(open: bool) -> Self {
+        let fresh = tape::fresh_settings();
         Bench {
             session: Session::start(Link::Uart),
+            start: fresh.start,
             length: 0,
             refusal: 0,
             flash: FLASH_LENGTH as usize,
@@ -58,8 +62,11 @@ impl Bench {
                 let session = before.restart(link_of(line.value));
                 self.session = session;
             }
+            b's' => {
+                self.start = line.code;
+            }
             b'c' => {
-                let session = coded(self.session, line.code);
+                let session = coded(self.session, (line.code % 256) as u8);
                 self.session = session;
             }
             b'f' => {

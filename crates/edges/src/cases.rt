@@ -5,6 +5,7 @@ use crate::lines::Line;
 use crate::report;
 use tape::Begun;
 use tm32::Session;
+use tm32::Settings;
 ghost use Prim.Native.Nat.{_≤_};
 
 // What a reply buffer holds as it is lent.
@@ -39,7 +40,7 @@ fn obeyed(
     buffer: &mut [u8; 1031],
 ) -> Bench {
     let mut room = io::buffer();
-    let line = lines::line_in(text, &mut room);
+    let line = lines::line_in(bench.start, text, &mut room);
     report::words(bench.open, line.kind, text);
     let message = stream::first(&room, line.length);
     step(bench.set_up(line), line, message, flash, ram, nvr, buffer)
@@ -108,9 +109,16 @@ fn served(
     nvr: &mut [u8],
     buffer: &mut [u8],
 ) -> Bench {
+    let settings = settings_from(bench.start);
     let session = begun(bench.session, is_case, flash, ram, nvr);
-    let turn = session.answer(tape::fresh_settings(), message, flash, ram, nvr, buffer);
+    let turn = session.answer(settings, message, flash, ram, nvr, buffer);
     bench.after(turn)
+}
+
+// The settings of the device: those of a fresh one, with a start value.
+fn settings_from(start: u16) -> Settings {
+    let fresh = tape::fresh_settings();
+    fresh.starting_from(start)
 }
 
 // The session that a message finds: where it opens a case that of a fresh device, whose memory is made so, too.

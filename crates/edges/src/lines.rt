@@ -2,7 +2,6 @@
 use crate::hex;
 use crate::hex::Bytes;
 use frame::Written;
-use text::CRC_START;
 
 // What a line is, by its first character.
 pub(crate) const HEADING: u8 = b'*';
@@ -28,16 +27,17 @@ pub(crate) struct Line {
     // The first letter of its first word, and of its second.
     pub name: u8,
     pub value: u8,
-    // Its first word as an address, and its second as a code and as a count.
+    // Its first word as an address, and its second as a code or start value and as a count.
     pub address: u32,
-    pub code: u8,
+    pub code: u16,
     pub count: usize,
     // How long the message is that stands in the room.
     pub length: usize,
 }
 
-// Takes a line apart, and puts its message into a room: the handshake where the line has none.
-pub(crate) fn line_in(text: &[u8], room: &mut [u8]) -> Line {
+// Takes a line apart, and puts its message into a room: the handshake where the line has none. The CRC of a frame starts from a
+// value.
+pub(crate) fn line_in(start: u16, text: &[u8], room: &mut [u8]) -> Line {
     let kind = letter_at(text, 0);
     let body = stream::behind(text, 2);
     let gap = bytes::scan::find(body, 0, body.len(), b' ');
@@ -48,11 +48,11 @@ pub(crate) fn line_in(text: &[u8], room: &mut [u8]) -> Line {
         name: letter_at(first, 0),
         value: letter_at(second, 1),
         address: hex::number_in(first, false),
-        code: (hex::number_in(second, false) % 256) as u8,
+        code: (hex::number_in(second, false) % 65536) as u16,
         count: hex::number_in(second, true) as usize,
         length: 0,
     };
-    line.with(message_in(kind, body, room))
+    line.with(message_in(start, kind, body, room))
 }
 
 // A character, and a space where there is none.
@@ -96,29 +96,29 @@ impl Line {
     }
 }
 
-fn message_in(kind: u8, body: &[u8], room: &mut [u8]) -> Bytes {
+fn message_in(start: u16, kind: u8, body: &[u8], room: &mut [u8]) -> Bytes {
     match kind {
         PLAIN => hex::bytes_in(body, room),
-        FRAMED | QUIET => framed_in(body, room),
+        FRAMED | QUIET => framed_in(start, body, room),
         HEADING | CASE | SETTING | QUESTION | REMARK | b' ' => hex::bytes_in(b"7F", room),
         _ => Bytes::Wrong,
     }
 }
 
-fn framed_in(body: &[u8], room: &mut [u8]) -> Bytes {
+fn framed_in(start: u16, body: &[u8], room: &mut [u8]) -> Bytes {
     let mut told = io::buffer();
     match hex::bytes_in(body, &mut told) {
-        Bytes::Told { count } => framed(stream::first(&told, count), room),
+        Bytes::Told { count } => framed(start, stream::first(&told, count), room),
         Bytes::Wrong => Bytes::Wrong,
     }
 }
 
 // The first byte is the command, and the others are its data.
-fn framed(told: &[u8], room: &mut [u8]) -> Bytes {
+fn framed(start: u16, told: &[u8], room: &mut [u8]) -> Bytes {
     if told.len() == 0 {
         return Bytes::Wrong;
     }
-    match frame::write(CRC_START, told[0], &told[1..], room) {
+    match frame::write(start, told[0], &told[1..], room) {
         Written::Frame(length) => Bytes::Told { count: length },
         _ => Bytes::Wrong,
     }

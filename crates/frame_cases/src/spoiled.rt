@@ -1,6 +1,6 @@
 // Six ways to spoil a frame that carries no data.
 use crate::tally::Tally;
-use text::CRC_START;
+use crate::wire::START;
 ghost use Prim.Native.Nat.{_≤_};
 
 // A way to spoil it, which is tried with many numbers.
@@ -33,7 +33,7 @@ pub(crate) fn tried(frame: [u8; 6], way: Way, most: u32) -> Tally {
 fn once(tally: Tally, frame: [u8; 6], way: Way, number: u32) -> Tally {
     let bytes = bytes_of(frame, way, number);
     let length = length_of(way);
-    let answer = frame::read(CRC_START, &bytes[0..length]);
+    let answer = frame::read(START, &bytes[0..length]);
     tally.with(answer, length - 2)
 }
 
@@ -83,7 +83,7 @@ fn changed(bytes: [u8; 7], place: usize, change: u8) -> [u8; 7] {
 fn summed(bytes: [u8; 7], place: usize) -> [u8; 7]
     requires { ⌜ place ≤ 5 ⌝ }
 {
-    let sum = frame::crc(CRC_START, &bytes[0..place]);
+    let sum = frame::crc(START, &bytes[0..place]);
     let mut next = bytes;
     next[place] = (sum % 256) as u8;
     next[place + 1] = (sum / 256) as u8;

@@ -3,15 +3,17 @@ use crate::show;
 use crate::spoiled::Way;
 use crate::spoiled::tried;
 use std::num::wrapping_add_u64;
-use text::CRC_START;
 ghost use mathlib.Core.Path.{_≡_};
 ghost use lib.ListN.{length};
+
+// What the CRC of the frames that 01 prints starts from.
+pub(crate) const START: u16 = 0;
 
 // The check values over the nine characters.
 pub(crate) fn sums() {
     let nine = b"123456789";
     show::text(b"CRC over 123456789 from 0000: ");
-    show::word(frame::crc(CRC_START, nine));
+    show::word(frame::crc(START, nine));
     show::text(b", from FFFF: ");
     show::word(frame::crc(0xFFFF, nine));
     show::text(b"\n");
@@ -19,8 +21,8 @@ pub(crate) fn sums() {
 
 // A frame that 01 prints: how it reads, what the writer writes for it, and how it reads once it is spoiled.
 pub(crate) fn printed(frame: [u8; 6]) {
-    read(CRC_START, &frame);
-    write(CRC_START, frame[1], b"", &mut [0xEE; 8]);
+    read(START, &frame);
+    write(START, frame[1], b"", &mut [0xEE; 8]);
     changed_bytes(frame);
     other_ways(frame);
 }
@@ -58,17 +60,17 @@ pub(crate) fn other_start() {
 // A frame that carries data.
 pub(crate) fn with_data() {
     show::text(b"With data\n");
-    write(CRC_START, 0x12, b"123456789", &mut [0xEE; 16]);
-    read(CRC_START, b"\x2D\x12\x09\x00123456789\x42\x1C");
+    write(START, 0x12, b"123456789", &mut [0xEE; 16]);
+    read(START, b"\x2D\x12\x09\x00123456789\x42\x1C");
 }
 
 // Room for the frame, and one byte too little.
 pub(crate) fn rooms() {
     show::text(b"Room\n");
-    write(CRC_START, 0x41, b"", &mut [0xEE; 6]);
-    write(CRC_START, 0x41, b"", &mut [0xEE; 5]);
-    write(CRC_START, 0x12, b"1", &mut [0xEE; 7]);
-    write(CRC_START, 0x12, b"1", &mut [0xEE; 6]);
+    write(START, 0x41, b"", &mut [0xEE; 6]);
+    write(START, 0x41, b"", &mut [0xEE; 5]);
+    write(START, 0x12, b"1", &mut [0xEE; 7]);
+    write(START, 0x12, b"1", &mut [0xEE; 6]);
 }
 
 // As much data as two bytes of length can say.
@@ -78,11 +80,11 @@ pub(crate) fn longest() {
 
 fn long_frame(payload: &[u8], buffer: &mut [u8]) {
     show::text(b"65535 bytes of data: ");
-    show::written(frame::write(CRC_START, 0x12, stream::first(payload, 65535), buffer));
+    show::written(frame::write(START, 0x12, stream::first(payload, 65535), buffer));
     show::text(b"; from byte 65538 on: ");
     show::bytes(stream::behind(buffer, 65538));
     show::text(b"; read: ");
-    show::reading(frame::read(CRC_START, stream::first(buffer, 65541)));
+    show::reading(frame::read(START, stream::first(buffer, 65541)));
     show::text(b"\n");
 }
 
@@ -91,7 +93,7 @@ pub(crate) fn too_long() {
     let payload = long_payload();
     let mut buffer = long_buffer();
     show::text(b"65536 bytes of data: ");
-    show::written(frame::write(CRC_START, 0x12, &payload, &mut buffer));
+    show::written(frame::write(START, 0x12, &payload, &mut buffer));
     show::text(b"; bytes of the buffer that changed: ");
     show::number(other_than(&buffer, 0xEE));
     show::text(b"\n");

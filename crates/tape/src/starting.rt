@@ -78,5 +78,6 @@ pub fn fresh_settings() -> Settings
         package: 0,
         model: 0,
         links: 0x7F,
+        start: 0,
     }
 }

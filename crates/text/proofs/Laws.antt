@@ -52,25 +52,25 @@ plain-fits (hex.Bytes count) buffer fits = go (eqb count 0) where
 plain-fits (hex.NotHex place) buffer fits = tt
 plain-fits hex.NoRoom buffer fits = tt
 
-commanding-fits : (bytes buffer : List ℕ) → MessageFits (commanding bytes buffer .answer) buffer
+commanding-fits : (start : ℕ) (bytes buffer : List ℕ) → MessageFits (commanding start bytes buffer .answer) buffer
 unfolding commanding framed writing
-commanding-fits [] buffer = tt
-commanding-fits (command ∷ payload) buffer = go (ltb longest (length payload)) (ltb (length buffer) (length payload + overhead)) refl where
+commanding-fits start [] buffer = tt
+commanding-fits start (command ∷ payload) buffer = go (ltb longest (length payload)) (ltb (length buffer) (length payload + overhead)) refl where
   go : (long short : Bool) → ltb (length buffer) (length payload + overhead) ≡ short
-      → MessageFits (framed (cond long (frames.outcome written.TooLong buffer) (cond short (frames.outcome written.NoRoom buffer) (frames.outcome (written.Frame (length payload + overhead)) (laid (frame 0 command payload) buffer))) .answer)) buffer
+      → MessageFits (framed (cond long (frames.outcome written.TooLong buffer) (cond short (frames.outcome written.NoRoom buffer) (frames.outcome (written.Frame (length payload + overhead)) (laid (frame start command payload) buffer))) .answer)) buffer
   go true short is = tt
   go false true is = tt
   go false false is = ltb-false _ _ is
 
-framing-fits : (answer : Hex) (bytes buffer : List ℕ) → MessageFits (framing answer bytes buffer .answer) buffer
+framing-fits : (start : ℕ) (answer : Hex) (bytes buffer : List ℕ) → MessageFits (framing start answer bytes buffer .answer) buffer
 unfolding framing
-framing-fits (hex.Bytes count) bytes buffer = commanding-fits bytes buffer
-framing-fits (hex.NotHex place) bytes buffer = tt
-framing-fits hex.NoRoom bytes buffer = tt
+framing-fits start (hex.Bytes count) bytes buffer = commanding-fits start bytes buffer
+framing-fits start (hex.NotHex place) bytes buffer = tt
+framing-fits start hex.NoRoom bytes buffer = tt
 
-pub message-fits : (line scratch message : List ℕ) → MessageFits (messageIn line scratch message .line .answer) message
+pub message-fits : (start : ℕ) (line scratch message : List ℕ) → MessageFits (messageIn start line scratch message .line .answer) message
 unfolding messageIn
-message-fits line scratch message = go (isCommand line) where
-  go : (command : Bool) → MessageFits (cond command (outcome (bytesIn line 1 scratch .buffer) (framing (bytesIn line 1 scratch .answer) (hexFrom (drop 1 line) 1 .bytes) message)) (outcome scratch (plainly (bytesIn line 0 message))) .line .answer) message
-  go true = framing-fits (bytesIn line 1 scratch .answer) (hexFrom (drop 1 line) 1 .bytes) message
+message-fits start line scratch message = go (isCommand line) where
+  go : (command : Bool) → MessageFits (cond command (outcome (bytesIn line 1 scratch .buffer) (framing start (bytesIn line 1 scratch .answer) (hexFrom (drop 1 line) 1 .bytes) message)) (outcome scratch (plainly (bytesIn line 0 message))) .line .answer) message
+  go true = framing-fits start (bytesIn line 1 scratch .answer) (hexFrom (drop 1 line) 1 .bytes) message
   go false = plain-fits (bytesIn line 0 message .answer) message (bytes-fit line 0 message)

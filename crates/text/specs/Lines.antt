@@ -14,10 +14,6 @@ use Rattle.text.specs.declared.Hex.the-variants as hex
 use Rattle.text.specs.declared.Line.{Line}
 use Rattle.text.specs.declared.Line.the-variants.{Nothing, Message, NotHex, NoCommand, TooLong, NoRoom}
 
--- What the CRC of a frame that is made of text starts from: the house's value.
-abbrev pub crcStart : ℕ
-crcStart = 0
-
 -- The character that ends a line.
 abbrev pub newline : ℕ
 newline = 0x0A
@@ -56,18 +52,18 @@ framed (written.Frame size) = Message size
 framed written.TooLong = TooLong
 framed written.NoRoom = NoRoom
 
--- The frame of a command and its data.
-unfoldable pub commanding : List ℕ → List ℕ → Lined
-commanding [] message = lined NoCommand message
-commanding (command ∷ payload) message =
-    let outcome : frames.Outcome = writing crcStart command payload message in
+-- The frame of a command and its data, whose CRC starts from a value.
+unfoldable pub commanding : ℕ → List ℕ → List ℕ → Lined
+commanding start [] message = lined NoCommand message
+commanding start (command ∷ payload) message =
+    let outcome : frames.Outcome = writing start command payload message in
     lined (framed (outcome .answer)) (outcome .buffer)
 
 -- Behind a >: what an answer of the reader of hex comes to, where it has found some bytes.
-unfoldable pub framing : Hex → List ℕ → List ℕ → Lined
-framing (hex.Bytes count) bytes message = commanding bytes message
-framing (hex.NotHex place) bytes message = lined (NotHex place) message
-framing hex.NoRoom bytes message = lined NoRoom message
+unfoldable pub framing : ℕ → Hex → List ℕ → List ℕ → Lined
+framing start (hex.Bytes count) bytes message = commanding start bytes message
+framing start (hex.NotHex place) bytes message = lined (NotHex place) message
+framing start hex.NoRoom bytes message = lined NoRoom message
 
 -- What comes of a line, with the scratch buffer afterwards.
 pub record Outcome : Type 0 where
@@ -82,10 +78,10 @@ outcome scratch line = record { scratch = scratch; line = line }
 unfoldable pub isCommand : List ℕ → Bool
 isCommand line = eqb (getD line 0 0) 0x3E
 
--- Reading a line of text. Behind a > the bytes are read into the scratch buffer, and the frame stands in the message's.
-unfoldable pub messageIn : List ℕ → List ℕ → List ℕ → Outcome
-messageIn line scratch message =
+-- Reading a line of text. Behind a > the bytes are read into the scratch buffer, and the frame stands in the message's; its CRC starts from a value.
+unfoldable pub messageIn : ℕ → List ℕ → List ℕ → List ℕ → Outcome
+messageIn start line scratch message =
     let behind : Read = bytesIn line 1 scratch in
     cond (isCommand line)
-    (outcome (behind .buffer) (framing (behind .answer) (hexFrom (drop 1 line) 1 .bytes) message))
+    (outcome (behind .buffer) (framing start (behind .answer) (hexFrom (drop 1 line) 1 .bytes) message))
     (outcome scratch (plainly (bytesIn line 0 message)))

@@ -1,11 +1,12 @@
 // The text form of bytes and of a message: a line in hex, with blanks and a comment; or a command and its data, behind a `>`, to be framed.
 mod lines;
+mod numbers;
 mod reader;
 mod writer;
 
-pub use lines::CRC_START;
 pub use lines::line_end;
 pub use lines::message_in;
+pub use numbers::word_in;
 pub use reader::bytes_in;
 pub use reader::digit_of;
 pub use writer::hex_of;
@@ -35,6 +36,14 @@ pub enum Line {
     TooLong,
     // Refused: the scratch buffer is shorter than the line's bytes, or the message's buffer shorter than the message.
     NoRoom,
+}
+
+// What one to four digits say.
+pub enum Word {
+    // This number.
+    Value { value: u16 },
+    // Refused: there are none or more than four, or a character is no digit.
+    NotHex,
 }
 
 // What stands at a place of a line.

@@ -10,9 +10,6 @@ ghost use Rattle.text.specs.Lines.{commanding, isCommand, lineEnd, lined
 // The character that asks for a frame.
 const MARK: u8 = b'>';
 
-// The house's start value of the CRC.
-pub const CRC_START: u16 = 0;
-
 // Where the line that starts at a place of a text ends: at its newline, or where the text does.
 pub fn line_end(text: &[u8], from: usize) -> usize
     ensures { λ r. ⌜ r ≡ lineEnd (now (text .entry)) from ⌝ }
@@ -29,15 +26,16 @@ pub fn line_end(text: &[u8], from: usize) -> usize
 
 // Reads a line of text and lays its message over the start of the message's buffer, which a refusal leaves alone. The scratch
 // buffer takes the bytes of a line that is to be framed, and holds them even where their frame is refused; else it is left alone.
-pub fn message_in(line: &[u8], scratch: &mut [u8], message: &mut [u8]) -> Line
+// The CRC of a frame starts from a value.
+pub fn message_in(start: u16, line: &[u8], scratch: &mut [u8], message: &mut [u8]) -> Line
     ensures { λ r. ⌜ outcome (now (scratch .exit)) (lined r (now (message .exit)))
-        ≡ messageIn (now (line .entry)) (now (scratch .entry)) (now (message .entry)) ⌝ }
+        ≡ messageIn start (now (line .entry)) (now (scratch .entry)) (now (message .entry)) ⌝ }
 {
     if !is_command(line) {
         return plain_in(line, message);
     }
     match bytes_in(line, 1, scratch) {
-        Hex::Bytes { count } => framed(&scratch[..count], message),
+        Hex::Bytes { count } => framed(start, &scratch[..count], message),
         Hex::NotHex { place } => Line::NotHex { place },
         Hex::NoRoom => Line::NoRoom,
     }
@@ -75,13 +73,13 @@ fn length_of(count: usize) -> Line
 }
 
 // The frame of a command and its data.
-fn framed(bytes: &[u8], message: &mut [u8]) -> Line
-    ensures { λ r. ⌜ lined r (now (message .exit)) ≡ commanding (now (bytes .entry)) (now (message .entry)) ⌝ }
+fn framed(start: u16, bytes: &[u8], message: &mut [u8]) -> Line
+    ensures { λ r. ⌜ lined r (now (message .exit)) ≡ commanding start (now (bytes .entry)) (now (message .entry)) ⌝ }
 {
     if bytes.len() == 0 {
         return Line::NoCommand;
     }
-    match frame::write(CRC_START, bytes[0], &bytes[1..], message) {
+    match frame::write(start, bytes[0], &bytes[1..], message) {
         Written::Frame(length) => Line::Message { length },
         Written::TooLong => Line::TooLong,
         Written::NoRoom => Line::NoRoom,

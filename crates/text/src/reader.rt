@@ -10,7 +10,7 @@ ghost use Rattle.text.specs.Walk.{Stands, walking};
 const HASH: u8 = b'#';
 
 // The number that stands for no digit.
-const NO_DIGIT: u8 = 16;
+pub(crate) const NO_DIGIT: u8 = 16;
 
 // Reads a line from a place on, and lays its bytes over the start of a buffer. A refusal leaves every byte of it alone.
 pub fn bytes_in(line: &[u8], from: usize, buffer: &mut [u8]) -> Hex

@@ -11,7 +11,6 @@ use Rattle.frame.specs.Frame.{frame, laid}
 use Rattle.tm32.specs.After.{after, callChecks, lay, noReply, replied, tell, telling}
 use Rattle.tm32_asks.specs.Checks.{verdict}
 use Rattle.tm32.specs.Device.{Device, deviceOf, memoryOf}
-use Rattle.tm32_asks.specs.Request.{crcStart}
 use Rattle.tm32.specs.Promises.{Laid, layAnswer, leaves, turnOf}
 use Rattle.tm32.specs.Respond.{Answered, answered, refuse, replyTo, respond, serve, verdictOn}
 use Rattle.tm32_asks.specs.Results.{workDone}
@@ -39,15 +38,15 @@ nothing-laid buffer handed = record { handed = handed; over = refl }
 module _ (settings : Settings) (device : Device) where
   -- a request is refused where the verdict on it is a number, and worked on where it is not
   pub refuses : (payload : List ℕ) (request : Request) {number : ℕ} → number ≡ verdictOn device request → (number ≡ workDone → ⊥)
-      → answered device (frame crcStart number []) ≡ serve settings device payload request
+      → answered device (frame (settings .start) number []) ≡ serve settings device payload request
   unfolding serve refuse
-  refuses payload request told failed = ap (λ (one : ℕ). answered device (frame crcStart one [])) told ∙ simp (ne-eqb _ _ (λ same. failed (told ∙ same)))
+  refuses payload request told failed = ap (λ (one : ℕ). answered device (frame (settings .start) one [])) told ∙ simp (ne-eqb _ _ (λ same. failed (told ∙ same)))
 
   pub serves : (payload : List ℕ) {request asked : Request} → request ≡ asked → verdictOn device request ≡ workDone
-      → replyTo (work settings device payload request) ≡ serve settings device payload asked
+      → replyTo (settings .start) (work settings device payload request) ≡ serve settings device payload asked
   unfolding serve
   serves payload {request} same passes =
-      let works : replyTo (work settings device payload request) ≡ serve settings device payload request = simp (eq-eqb _ _ passes) in
+      let works : replyTo (settings .start) (work settings device payload request) ≡ serve settings device payload request = simp (eq-eqb _ _ passes) in
       works ∙ ap (serve settings device payload) same
 
   -- a call is told the number of a check that fails, and is heard where none does

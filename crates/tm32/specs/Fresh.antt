@@ -34,4 +34,9 @@ freshDevice = deviceOf (start Uart) (memoryOf freshFlash freshRam freshNvr)
 
 -- Version bytes 00 01, all seven links, and nought else.
 unfoldable pub freshSettings : Settings
-freshSettings = record { version = 0x00 ∷ 0x01 ∷ []; serial = replicate 12 0; «package» = 0; model = 0; links = uart1 + uart2 + uart3 + spi1 + spi2 + i2c1 + i2c2 }
+freshSettings = record { version = 0x00 ∷ 0x01 ∷ []; serial = replicate 12 0; «package» = 0; model = 0; links = uart1 + uart2 + uart3 + spi1 + spi2 + i2c1 + i2c2; start = 0 }
+
+-- Settings with another start value.
+abbrev pub withStart : Settings → ℕ → Settings
+withStart settings start =
+    record { version = settings .version; serial = settings .serial; «package» = settings .«package»; model = settings .model; links = settings .links; start = start }

@@ -38,7 +38,7 @@ isTalking Waiting = false
 isTalking Talking = true
 isTalking (Gone address) = false
 
--- Whether a message, sent to a device with so much room for the reply, reads or writes its option bytes. A call that is refused with 1 to 5 does neither.
-unfoldable pub optionMessage : Device → List ℕ → ℕ → Bool
-optionMessage device message room =
-    eqb (verdict 0 (callChecks device room)) 0 && isTalking (device .session .state) && touchesOptions (requestIn message)
+-- Whether a message, sent to a device with so much room for the reply, reads or writes its option bytes, where a CRC starts from a value. A call that is refused with 1 to 5 does neither.
+unfoldable pub optionMessage : ℕ → Device → List ℕ → ℕ → Bool
+optionMessage start device message room =
+    eqb (verdict 0 (callChecks device room)) 0 && isTalking (device .session .state) && touchesOptions (requestIn start message)

@@ -32,10 +32,10 @@ pub record LetThrough (request : Request) : Type 0 where
   pub options : List ℕ
   pub passes : noneFails (checksOf link options request) ≡ true
 
--- That the work of a request leaves a memory and has a result: neither hangs on the session or the settings.
-pub record Changed (memory : Memory) (payload : List ℕ) (request : Request) (after : Memory) (result : ℕ) : Type 0 where
-  pub leaves : (settings : Settings) (session : Session) → after ≡ work settings (deviceOf session memory) payload request .device .memory
-  pub gives : (settings : Settings) (session : Session) → result ≡ work settings (deviceOf session memory) payload request .result
+-- That the work of a request leaves a memory and has a result: neither hangs on the session.
+pub record Changed (settings : Settings) (memory : Memory) (payload : List ℕ) (request : Request) (after : Memory) (result : ℕ) : Type 0 where
+  pub leaves : (session : Session) → after ≡ work settings (deviceOf session memory) payload request .device .memory
+  pub gives : (session : Session) → result ≡ work settings (deviceOf session memory) payload request .result
 
 -- That it leaves a session: that hangs on the session and the request alone.
 abbrev pub GoesOn : Session → Request → Session → Type 0

@@ -9,7 +9,7 @@ use Rattle.memory.specs.Stores.{same}
 use Rattle.tm32_asks.specs.Checks.{checksOf, verdict}
 use Rattle.tm32.specs.Device.{Device, inState, withSession}
 use Rattle.tm32_asks.specs.Options.{optionBytes}
-use Rattle.tm32_asks.specs.Request.{crcStart, requestIn}
+use Rattle.tm32_asks.specs.Request.{requestIn}
 use Rattle.tm32_asks.specs.Results.{noHandshake, workDone}
 use Rattle.tm32.specs.Work.{Worked, work}
 use Rattle.tm32_asks.specs.declared.Request.{Request}
@@ -33,23 +33,23 @@ hello = 0x7F ∷ []
 abbrev pub helloBack : List ℕ
 helloBack = 0x79 ∷ []
 
--- A refusal is a frame with its number and no data, and changes nothing.
-unfoldable pub refuse : Device → ℕ → Answered
-refuse device number = answered device (frame crcStart number [])
+-- A refusal is a frame with its number and no data, whose CRC starts from a value, and changes nothing.
+unfoldable pub refuse : ℕ → Device → ℕ → Answered
+refuse start device number = answered device (frame start number [])
 
 -- What the checks and protection say of a request.
 unfoldable pub verdictOn : Device → Request → ℕ
 verdictOn device request = verdict workDone (checksOf (device .session .link) (optionBytes (device .memory .nvr)) request)
 
--- The reply to work.
-unfoldable pub replyTo : Worked → Answered
-replyTo done = answered (done .device) (frame crcStart (done .result) (done .payload))
+-- The reply to work: a frame, too.
+unfoldable pub replyTo : ℕ → Worked → Answered
+replyTo start done = answered (done .device) (frame start (done .result) (done .payload))
 
 -- A request with its data: refused by the first check that fails, or else worked on.
 unfoldable pub serve : Settings → Device → List ℕ → Request → Answered
 serve settings device payload request =
     let number : ℕ = verdictOn device request in
-    cond (eqb number workDone) (replyTo (work settings device payload request)) (refuse device number)
+    cond (eqb number workDone) (replyTo (settings .start) (work settings device payload request)) (refuse (settings .start) device number)
 
 -- The handshake makes the session Talk, on the link and at the rate that it had.
 unfoldable pub greet : Device → Answered
@@ -67,10 +67,10 @@ isWaiting Talking = false
 isWaiting (Gone address) = false
 
 -- The answer to a message. An empty one, and any to a device that has Gone, draws an empty reply. Of the others the handshake is answered; what else comes is refused while
--- Waiting, and read while Talking.
+-- Waiting, and read while Talking. Every frame, read or written, has the start value of the settings.
 unfoldable pub respond : Settings → Device → List ℕ → Answered
 respond settings device message =
     cond (eqb (length message) 0 || isGone (device .session .state)) (answered device [])
     (cond (same message hello) (greet device)
-    (cond (isWaiting (device .session .state)) (refuse device noHandshake)
-    (serve settings device (dataOf message) (requestIn message))))
+    (cond (isWaiting (device .session .state)) (refuse (settings .start) device noHandshake)
+    (serve settings device (dataOf message) (requestIn (settings .start) message))))

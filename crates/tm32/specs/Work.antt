@@ -9,7 +9,6 @@ use Rattle.memory.specs.Stores.{kept, replaced, same}
 use Rattle.memory.specs.declared.Programmed.{Programmed}
 use Rattle.memory.specs.declared.Programmed.the-variants.{AsGiven, Differs, Outside}
 use Rattle.tm32.specs.Device.{Device, Memory, atRate, bytesAt, inState, memoryOf, withFlash, withMemory, withNvr, withRam, withSession}
-use Rattle.tm32_asks.specs.Request.{crcStart}
 use Rattle.tm32_asks.specs.Map.{blank, flashStart, inFlash, inRam, nvrStart, optionsStart, pageCount, pageSize, ramStart}
 use Rattle.tm32_asks.specs.Numbers.{long}
 use Rattle.tm32_asks.specs.Options.{optionBytes, rdpOn}
@@ -83,9 +82,9 @@ programmedResult flag Outside = wrongAddress
 unfoldable pub readback : ℕ → ℕ → List ℕ → Memory → ℕ
 readback flag address bytes after = programmedResult flag (cond (same (bytesAt after address (length bytes)) bytes) AsGiven Differs)
 
--- Memory CRC: the frame's own CRC over the range, against the one that was sent.
-unfoldable pub compared : Memory → ℕ → ℕ → ℕ → ℕ
-compared memory address count wanted = cond (eqb (crc crcStart (bytesAt memory address count)) wanted) workDone wrongCrc
+-- Memory CRC: the frame's own CRC over the range, from the same start value, against the one that was sent.
+unfoldable pub compared : ℕ → Memory → ℕ → ℕ → ℕ → ℕ
+compared start memory address count wanted = cond (eqb (crc start (bytesAt memory address count)) wanted) workDone wrongCrc
 
 -- Erase: so many pages from the first on become blank.
 unfoldable pub erased : List ℕ → ℕ → ℕ → List ℕ
@@ -118,7 +117,7 @@ work settings device payload (Read address count) = worked workDone (bytesAt (de
 work settings device payload (Write flag address count) =
     let after : Memory = written (device .memory) address (drop 5 payload) in
     worked (readback flag address (drop 5 payload) after) [] (withMemory device after)
-work settings device payload (MemoryCrc address count wanted) = worked (compared (device .memory) address count wanted) [] device
+work settings device payload (MemoryCrc address count wanted) = worked (compared (settings .start) (device .memory) address count wanted) [] device
 work settings device payload (Erase first count) = worked workDone [] (withMemory device (withFlash (device .memory) (erased (device .memory .flash) first count)))
 work settings device payload (Go address) = worked workDone [] (withSession device (inState (device .session) (Gone address)))
 work settings device payload WriteOptions = worked workDone [] (withMemory device (withOptions (device .memory) payload))

@@ -38,7 +38,7 @@ ghost use Rattle.tm32.specs.Promises.{Changed, GoesOn, Laid, Lent, LetTh
 ghost use Rattle.tm32_asks.specs.Checks.{check, verdict};
 ghost use Rattle.tm32_asks.specs.Map.{flashLength, nvrLength, ramLength};
 ghost use Rattle.tm32_asks.specs.Rates.{isRate};
-ghost use Rattle.tm32_asks.specs.Request.{crcStart, requestIn};
+ghost use Rattle.tm32_asks.specs.Request.{requestIn};
 ghost use Rattle.tm32.specs.Respond.{hello, helloBack, isGone, isWaiting, replyTo, respond as respondIs, serve as serveIs, verdictOn};
 ghost use Rattle.tm32_asks.specs.Results.{workDone};
 ghost use Rattle.tm32.specs.Work.{work as workIs};
@@ -145,7 +145,7 @@ fn respond(
         return greet(session, buffer);
     }
     if is_waiting(state) {
-        return reply(session, NO_HANDSHAKE, buffer);
+        return reply(settings.start, session, NO_HANDSHAKE, buffer);
     }
     serve(session, settings, message, flash, ram, nvr, buffer)
 }
@@ -207,13 +207,14 @@ fn serve(
     ensures { λ r. ⌜ leaves r (now (flash .exit)) (now (ram .exit)) (now (nvr .exit)) (now (buffer .exit))
         ≡ layAnswer (now (buffer .entry))
         (serveIs settings (deviceOf session (memoryOf (now (flash .entry)) (now (ram .entry)) (now (nvr .entry))))
-        (dataOf (now (message .entry))) (requestIn (now (message .entry)))) ⌝ }
+        (dataOf (now (message .entry))) (requestIn (settings .start) (now (message .entry)))) ⌝ }
 {
-    let request = request_in(message);
+    let start = settings.start;
+    let request = request_in(start, message);
     let link = session.link;
     let number = tm32_asks::verdict(link, read_options::work(nvr), request);
     if number != WORK_DONE {
-        return reply(session, number, buffer);
+        return reply(start, session, number, buffer);
     }
     work(session, settings, request, message, flash, ram, nvr, buffer)
 }
@@ -230,24 +231,31 @@ fn work(
     buffer: &mut [u8],
 ) -> Turn
     requires { ⌜ Lent (memoryOf (now flash) (now ram) (now nvr)) (length (now buffer)) ⌝ }
-    requires { ⌜ request ≡ requestIn (now message) ⌝ }
+    requires { ⌜ request ≡ requestIn (settings .start) (now message) ⌝ }
     requires { ⌜ verdictOn (deviceOf session (memoryOf (now flash) (now ram) (now nvr))) request ≡ workDone ⌝ }
     ensures { λ r. ⌜ leaves r (now (flash .exit)) (now (ram .exit)) (now (nvr .exit)) (now (buffer .exit))
         ≡ layAnswer (now (buffer .entry))
-        (replyTo (workIs settings (deviceOf session (memoryOf (now (flash .entry)) (now (ram .entry)) (now (nvr .entry))))
+        (replyTo (settings .start) (workIs settings (deviceOf session (memoryOf (now (flash .entry)) (now (ram .entry)) (now (nvr .entry))))
         (dataOf (now (message .entry))) request)) ⌝ }
 {
-    let result = change(request, message, flash, ram, nvr);
+    let result = change(settings, request, message, flash, ram, nvr);
     let next = onward(session, request);
     answered(next, settings, request, result, flash, ram, nvr, buffer)
 }
 
 // What a request changes in the memory, and its result.
-fn change(request: Request, message: &[u8], flash: &mut [u8], ram: &mut [u8], nvr: &mut [u8]) -> u8
+fn change(
+    settings: Settings,
+    request: Request,
+    message: &[u8],
+    flash: &mut [u8],
+    ram: &mut [u8],
+    nvr: &mut [u8],
+) -> u8
     requires { ⌜ Lent (memoryOf (now flash) (now ram) (now nvr)) replyRoom ⌝ }
-    requires { ⌜ request ≡ requestIn (now message) ⌝ }
+    requires { ⌜ request ≡ requestIn (settings .start) (now message) ⌝ }
     requires { ⌜ LetThrough request ⌝ }
-    ensures { λ r. ⌜ Changed (memoryOf (now (flash .entry)) (now (ram .entry)) (now (nvr .entry))) (dataOf (now (message .entry)))
+    ensures { λ r. ⌜ Changed settings (memoryOf (now (flash .entry)) (now (ram .entry)) (now (nvr .entry))) (dataOf (now (message .entry)))
         request (memoryOf (now (flash .exit)) (now (ram .exit)) (now (nvr .exit))) r ⌝ }
 {
     match request {
@@ -263,7 +271,7 @@ fn change(request: Request, message: &[u8], flash: &mut [u8], ram: &mut [u8], nv
             address,
             count,
             crc,
-        } => memory_crc::work(flash, ram, nvr, address, count, crc),
+        } => memory_crc::work(settings.start, flash, ram, nvr, address, count, crc),
         Request::Erase { first, count } => {
             erase::work(flash, first, count);
             WORK_DONE
@@ -303,16 +311,17 @@ fn answered<'a>(
     requires { ⌜ Lent (memoryOf (now flash) (now ram) (now nvr)) (length (now buffer)) ⌝ }
     requires { ⌜ LetThrough request ⌝ }
     ensures { λ r. ⌜ Laid r (now (buffer .exit)) session
-        (frame crcStart result (workIs settings (deviceOf session (memoryOf (now (flash .entry)) (now (ram .entry)) (now (nvr .entry)))) [] request .payload))
+        (frame (settings .start) result (workIs settings (deviceOf session (memoryOf (now (flash .entry)) (now (ram .entry)) (now (nvr .entry)))) [] request .payload))
         (now (buffer .entry)) ⌝ }
 {
+    let start = settings.start;
     match request {
-        Request::Get => reply_with(session, result, &get::work(settings), buffer),
+        Request::Get => reply_with(start, session, result, &get::work(settings), buffer),
         Request::Read { address, count } => {
             let bytes = read::work(flash, ram, nvr, address, count);
-            reply_with(session, result, bytes, buffer)
+            reply_with(start, session, result, bytes, buffer)
         }
-        Request::ReadOptions => reply_with(session, result, read_options::work(nvr), buffer),
-        _ => reply(session, result, buffer),
+        Request::ReadOptions => reply_with(start, session, result, read_options::work(nvr), buffer),
+        _ => reply(start, session, result, buffer),
     }
 }

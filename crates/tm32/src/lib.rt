@@ -12,6 +12,7 @@ mod read_options;
 mod replies;
 mod results;
 mod sessions;
+mod start_value;
 mod write;
 mod write_options;
 
@@ -39,13 +40,15 @@ pub struct Session {
     pub rate: u8,
 }
 
-// What Get tells of the chip, given at the start. Version and serial are sent as the bytes that they are here.
+// What Get tells of the chip, and what its CRCs start from, in frames both ways and in Memory CRC. All of it is given at the start.
+// Version and serial are sent as the bytes that they are here.
 pub struct Settings {
     pub version: [u8; 2],
     pub serial: [u8; 12],
     pub package: u8,
     pub model: u8,
     pub links: u32,
+    pub start: u16,
 }
 
 // What comes of a message.

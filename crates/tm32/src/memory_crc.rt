@@ -1,7 +1,6 @@
-// Memory CRC compares: the frame's own CRC over a range, against the one that was sent.
+// Memory CRC compares: the frame's own CRC over a range, from the same start value, against the one that was sent.
 use crate::read;
 use crate::results::WRONG_CRC;
-use tm32_asks::CRC_START;
 use tm32_asks::WORK_DONE;
 ghost use mathlib.Core.Bool.{true};
 ghost use mathlib.Core.Path.{_≡_};
@@ -11,6 +10,7 @@ ghost use Rattle.tm32_asks.specs.Map.{flashLength, inUserRegion, nvrLength, ram
 ghost use Rattle.tm32.specs.Work.{compared};
 
 pub(crate) fn work<'a>(
+    start: u16,
     flash: &'a [u8],
     ram: &'a [u8],
     nvr: &'a [u8],
@@ -22,9 +22,9 @@ pub(crate) fn work<'a>(
     requires { ⌜ length (now ram) ≡ ramLength ⌝ }
     requires { ⌜ length (now nvr) ≡ nvrLength ⌝ }
     requires { ⌜ inUserRegion address count ≡ true ⌝ }
-    ensures { λ r. ⌜ r ≡ compared (memoryOf (now (flash .entry)) (now (ram .entry)) (now (nvr .entry))) address count wanted ⌝ }
+    ensures { λ r. ⌜ r ≡ compared start (memoryOf (now (flash .entry)) (now (ram .entry)) (now (nvr .entry))) address count wanted ⌝ }
 {
-    if frame::crc(CRC_START, read::work(flash, ram, nvr, address, count)) == wanted {
+    if frame::crc(start, read::work(flash, ram, nvr, address, count)) == wanted {
         return WORK_DONE;
     }
     WRONG_CRC

@@ -12,7 +12,7 @@ use Rattle.tm32_asks.specs.Checks.{Check, checks, checksOf, flashPages, 
 use Rattle.tm32_asks.specs.Map.{inReadRegion, inUserRegion, optionsLength, pageCount}
 use Rattle.tm32_asks.specs.Numbers.{fromOneTo}
 use Rattle.tm32_asks.specs.Options.{underWrp}
-use Rattle.tm32_asks.specs.Request.{crcStart, exactly, readingResult, requestIn, requestOf, writeIn}
+use Rattle.tm32_asks.specs.Request.{exactly, readingResult, requestIn, requestOf, writeIn}
 use Rattle.tm32_asks.specs.Results.{workDone}
 use Rattle.tm32_asks.specs.declared.Link.{Link}
 use Rattle.tm32_asks.specs.declared.Request.{Request}
@@ -139,10 +139,10 @@ command-shaped command payload =
     tt)))))))))
 
 -- the data of every message has the shape that its request says
-pub shaped-so : (message : List ℕ) → Shaped (dataOf message) (requestIn message)
+pub shaped-so : (start : ℕ) (message : List ℕ) → Shaped (dataOf message) (requestIn start message)
 unfolding requestIn Shaped
-shaped-so message = of-both (Shaped (dataOf message)) (eqb (readingResult (reading crcStart message)) workDone) (command-shaped (getD message 1 0) (dataOf message)) tt
+shaped-so start message = of-both (Shaped (dataOf message)) (eqb (readingResult (reading start message)) workDone) (command-shaped (getD message 1 0) (dataOf message)) tt
 
 -- under the name that the request is known by
-pub shaped-as : (message : List ℕ) {request known : Request} → request ≡ known → request ≡ requestIn message → Shaped (dataOf message) known
-shaped-as message named read = subst (Shaped (dataOf message)) (sym read ∙ named) (shaped-so message)
+pub shaped-as : (start : ℕ) (message : List ℕ) {request known : Request} → request ≡ known → request ≡ requestIn start message → Shaped (dataOf message) known
+shaped-as start message named read = subst (Shaped (dataOf message)) (sym read ∙ named) (shaped-so start message)

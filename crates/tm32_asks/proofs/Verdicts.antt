@@ -8,7 +8,7 @@ use borrow.Author.Tests.{eqb-false, not-true}
 use Rattle.frame.specs.Frame.{reading}
 use Rattle.frame.specs.declared.Reading.the-variants.{Spoiled}
 use Rattle.tm32_asks.specs.Checks.{Check, checks, checksOf, noneFails, numbersOf, protections, readChecks, verdict, writeChecks}
-use Rattle.tm32_asks.specs.Request.{crcStart, readingResult, requestIn}
+use Rattle.tm32_asks.specs.Request.{readingResult, requestIn}
 use Rattle.tm32_asks.specs.Results.{pcropProtected, readProtected, workDone, writeProtected, wrongAddress, wrongLength, wrongLink, wrongPageCount, wrongRate, wrongShape}
 use Rattle.tm32_asks.specs.declared.Link.{Link}
 use Rattle.memory.specs.declared.PageRun.{PageRun}
@@ -121,10 +121,10 @@ unfolding passAll isNot numbersOf readChecks
 read-others options run = refl
 
 -- a message whose frame is spoiled is refused with the number of that
-pub spoiled-refused : (link : Link) (options message : List ℕ) (place : ℕ) → reading crcStart message ≡ Spoiled place
-    → verdict workDone (checksOf link options (requestIn message)) ≡ readingResult (reading crcStart message)
+pub spoiled-refused : (link : Link) (options : List ℕ) (start : ℕ) (message : List ℕ) (place : ℕ) → reading start message ≡ Spoiled place
+    → verdict workDone (checksOf link options (requestIn start message)) ≡ readingResult (reading start message)
 unfolding requestIn readingResult checks protections verdict
-spoiled-refused link options message place is = rw is
+spoiled-refused link options start message place is = rw is
 
 -- a verdict that work may be done: no check fails
 pub none-fails : (passed : ℕ) (list : List Check) → Unnumbered passed list → verdict passed list ≡ passed → noneFails list ≡ true

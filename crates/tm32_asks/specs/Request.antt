@@ -13,10 +13,6 @@ use Rattle.tm32_asks.specs.Results.{workDone, wrongShape}
 use Rattle.tm32_asks.specs.declared.Request.{Request}
 use Rattle.tm32_asks.specs.declared.Request.the-variants.{Pps, Get, Read, Write, MemoryCrc, Erase, Go, WriteOptions, ReadOptions, HeartBeat, Misshapen}
 
--- What a CRC of this chip starts from, in frames and in Memory CRC.
-abbrev pub crcStart : ℕ
-crcStart = 0
-
 -- A request whose data must be just so long.
 unfoldable pub exactly : ℕ → List ℕ → Request → Request
 exactly count payload request = cond (eqb (length payload) count) request Misshapen
@@ -48,6 +44,6 @@ unfoldable pub readingResult : Reading → ℕ
 readingResult (Sound command count) = workDone
 readingResult (Spoiled place) = wrongShape
 
--- What a message asks for: where its frame passes, what its second byte, the command, asks for with the data.
-unfoldable pub requestIn : List ℕ → Request
-requestIn message = cond (eqb (readingResult (reading crcStart message)) workDone) (requestOf (getD message 1 0) (dataOf message)) Misshapen
+-- What a message asks for, where a CRC starts from a value: where its frame passes, what its second byte, the command, asks for with the data.
+unfoldable pub requestIn : ℕ → List ℕ → Request
+requestIn start message = cond (eqb (readingResult (reading start message)) workDone) (requestOf (getD message 1 0) (dataOf message)) Misshapen

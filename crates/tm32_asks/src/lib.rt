@@ -22,7 +22,6 @@ pub use map::in_flash;
 pub use map::in_nvr;
 pub use map::in_ram;
 pub use options::rdp_on;
-pub use requests::CRC_START;
 pub use requests::bytes_to_write;
 pub use requests::request_in;
 pub use results::WORK_DONE;

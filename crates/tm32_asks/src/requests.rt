@@ -8,20 +8,17 @@ ghost use Rattle.frame.specs.Frame.{longest, wordAt};
 ghost use Rattle.tm32_asks.specs.Numbers.{longAt};
 ghost use Rattle.tm32_asks.specs.Request.{exactly as exactlyIs, requestIn, requestOf, writeIn};
 
-// What a CRC of this chip starts from, in frames and in Memory CRC.
-pub const CRC_START: u16 = 0;
-
 // How many option bytes there are.
 const OPTIONS_LENGTH: usize = 22;
 
 // How much of a write's data is not bytes to write: the readback flag and the address.
 const WRITE_HEAD: usize = 5;
 
-// What a message asks for. A message that is no sound frame asks for nothing.
-pub fn request_in(message: &[u8]) -> Request
-    ensures { λ r. ⌜ r ≡ requestIn (now (message .entry)) ⌝ }
+// What a message asks for, where a CRC starts from a value. A message that is no sound frame asks for nothing.
+pub fn request_in(start: u16, message: &[u8]) -> Request
+    ensures { λ r. ⌜ r ≡ requestIn start (now (message .entry)) ⌝ }
 {
-    match frame::read(CRC_START, message) {
+    match frame::read(start, message) {
         Reading::Sound { second, length: _ } => request_of(second, frame::data_of(message)),
         Reading::Spoiled { place: _ } => Request::Misshapen,
     }

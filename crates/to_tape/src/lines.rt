@@ -12,6 +12,7 @@ const LONGEST: usize = 65535;
 
 // The lines that end in the text.
 pub(crate) fn whole(
+    start: u16,
     text: &[u8],
     number: u64,
     scratch: &mut [u8],
@@ -26,7 +27,15 @@ pub(crate) fn whole(
         if text.len() <= end {
             return written(sheet, paper, used, line);
         }
-        match one(&text[used..end], line, sheet, scratch, message, paper) {
+        match one(
+            start,
+            &text[used..end],
+            line,
+            sheet,
+            scratch,
+            message,
+            paper,
+        ) {
             Step::On { next } => {
                 sheet = next;
             }
@@ -40,19 +49,21 @@ pub(crate) fn whole(
 
 // The last line, which the end of the text ends.
 pub(crate) fn last(
+    start: u16,
     line: &[u8],
     number: u64,
     scratch: &mut [u8],
     message: &mut [u8],
     paper: &mut [u8],
 ) {
-    if let Step::On { next } = one(line, number, Sheet::empty(), scratch, message, paper) {
+    if let Step::On { next } = one(start, line, number, Sheet::empty(), scratch, message, paper) {
         written(next, paper, 0, number);
     }
 }
 
 // One line: its message, if it has one, goes on the sheet as a record.
 fn one(
+    start: u16,
     line: &[u8],
     number: u64,
     sheet: Sheet,
@@ -60,7 +71,7 @@ fn one(
     message: &mut [u8],
     paper: &mut [u8],
 ) -> Step {
-    match text::message_in(line, scratch, message) {
+    match text::message_in(start, line, scratch, message) {
         Line::Nothing => Step::On { next: sheet },
         Line::Message { length } => record(&message[..length], number, sheet, paper),
         Line::NotHex { place } => {

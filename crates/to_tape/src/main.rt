@@ -1,8 +1,10 @@
 // Text on standard input becomes a bench tape on standard output: each line's message is a record of kind 1. A line that is wrong
-// is told on standard error, and nothing behind it is read.
+// is told on standard error, and nothing behind it is read. The CRCs of its frames start from the fresh device's value, or from the
+// one that the command line gives behind `--start`.
 mod lines;
 mod tell;
 
+use arguments::Asked;
 use stream::Filled;
 use stream::Sheet;
 
@@ -31,19 +33,26 @@ pub(crate) enum Step {
 }
 
 fn main() {
+    let fresh = tape::fresh_settings();
+    if let Asked::Start { value } = arguments::start(fresh.start) {
+        on_blocks(value);
+    }
+}
+
+fn on_blocks(start: u16) {
     let mut block = io::large_buffer();
     let mut scratch = io::large_buffer();
     let mut message = io::large_buffer();
     let mut paper = io::large_buffer();
-    run(&mut block, &mut scratch, &mut message, &mut paper);
+    run(start, &mut block, &mut scratch, &mut message, &mut paper);
 }
 
 // A proved loop has to end, and nothing says that the input does: the turns count down from a number that no run uses up.
-fn run(block: &mut [u8], scratch: &mut [u8], message: &mut [u8], paper: &mut [u8]) {
+fn run(start: u16, block: &mut [u8], scratch: &mut [u8], message: &mut [u8], paper: &mut [u8]) {
     let mut place = Place { held: 0, number: 1 };
     let mut turns = u64::MAX;
     while 0 < turns {
-        match read_on(place, block, scratch, message, paper) {
+        match read_on(start, place, block, scratch, message, paper) {
             Turn::On { next } => {
                 place = next;
             }
@@ -55,6 +64,7 @@ fn run(block: &mut [u8], scratch: &mut [u8], message: &mut [u8], paper: &mut [u8
 
 // One read, and the lines that it brings.
 fn read_on(
+    start: u16,
     place: Place,
     block: &mut [u8],
     scratch: &mut [u8],
@@ -65,6 +75,7 @@ fn read_on(
     match stream::fill(block, before) {
         Filled::More { held } => {
             match lines::whole(
+                start,
                 stream::first(block, held),
                 place.number,
                 scratch,
@@ -77,6 +88,7 @@ fn read_on(
         }
         Filled::End => {
             lines::last(
+                start,
                 stream::first(block, before),
                 place.number,
                 scratch,

@@ -1,8 +1,10 @@
-// A bench tape on standard input becomes text on standard output, a line a record.
+// A bench tape on standard input becomes text on standard output, a line a record. The CRCs of its frames start from the fresh
+// device's value, or from the one that the command line gives behind `--start`.
 mod records;
 mod show;
 mod words;
 
+use arguments::Asked;
 use libc::STDERR_FILENO;
 use stream::Filled;
 ghost use mathlib.Core.Path.{_≡_};
@@ -21,9 +23,16 @@ pub(crate) enum Passed {
 }
 
 fn main() {
+    let fresh = tape::fresh_settings();
+    if let Asked::Start { value } = arguments::start(fresh.start) {
+        on_block(value);
+    }
+}
+
+fn on_block(start: u16) {
     let mut block = block();
     let mut paper = io::large_buffer();
-    run(&mut block, &mut paper);
+    run(start, &mut block, &mut paper);
 }
 
 // Room for the longest record and as much again. Whoever calls this knows the length and nothing of the bytes, which keeps the
@@ -35,11 +44,11 @@ fn block() -> [u8; 131072]
 }
 
 // A proved loop has to end, and nothing says that the input does: the turns count down from a number that no run uses up.
-fn run(block: &mut [u8], paper: &mut [u8]) {
+fn run(start: u16, block: &mut [u8], paper: &mut [u8]) {
     let mut held = 0;
     let mut turns = u64::MAX;
     while 0 < turns {
-        match read_on(held, block, paper) {
+        match read_on(start, held, block, paper) {
             Turn::On { held: next } => {
                 held = next;
             }
@@ -50,9 +59,9 @@ fn run(block: &mut [u8], paper: &mut [u8]) {
 }
 
 // One read, and the records that it brings.
-fn read_on(before: usize, block: &mut [u8], paper: &mut [u8]) -> Turn {
+fn read_on(start: u16, before: usize, block: &mut [u8], paper: &mut [u8]) -> Turn {
     match stream::fill(block, before) {
-        Filled::More { held } => match records::whole(stream::first(block, held), paper) {
+        Filled::More { held } => match records::whole(start, stream::first(block, held), paper) {
             Passed::On { used } => Turn::On {
                 held: tape::keep_rest(block, used, held),
             },

@@ -10,16 +10,21 @@ use tape::Found;
 use tape::HEAD_LENGTH;
 use tape::MESSAGE;
 use tape::REPLY;
-use text::CRC_START;
 
 // The records that stand whole on the tape.
-pub(crate) fn whole(tape: &[u8], paper: &mut [u8]) -> Passed {
+pub(crate) fn whole(start: u16, tape: &[u8], paper: &mut [u8]) -> Passed {
     let mut sheet = Sheet::empty();
     let mut used = 0;
     while used < tape.len() {
         match tape::record_in(&tape[used..]) {
             Found::Whole { length, kind } => {
-                sheet = line(sheet, paper, kind, tape::body_of(&tape[used..], length));
+                sheet = line(
+                    start,
+                    sheet,
+                    paper,
+                    kind,
+                    tape::body_of(&tape[used..], length),
+                );
                 used += HEAD_LENGTH + length as usize;
             }
             _ => return written(sheet, paper, used),
@@ -50,34 +55,34 @@ fn written(sheet: Sheet, paper: &[u8], used: usize) -> Passed {
 }
 
 // A record's line.
-fn line(sheet: Sheet, paper: &mut [u8], kind: u16, body: &[u8]) -> Sheet {
-    let full = record(sheet, paper, kind, body);
+fn line(start: u16, sheet: Sheet, paper: &mut [u8], kind: u16, body: &[u8]) -> Sheet {
+    let full = record(start, sheet, paper, kind, body);
     full.byte(paper, b'\n')
 }
 
-fn record(sheet: Sheet, paper: &mut [u8], kind: u16, body: &[u8]) -> Sheet {
+fn record(start: u16, sheet: Sheet, paper: &mut [u8], kind: u16, body: &[u8]) -> Sheet {
     match kind {
-        MESSAGE => message(sheet, paper, body),
-        REPLY => reply(sheet, paper, body),
+        MESSAGE => message(start, sheet, paper, body),
+        REPLY => reply(start, sheet, paper, body),
         ERROR => error(sheet, paper, body),
         _ => other(sheet, paper, kind, body.len()),
     }
 }
 
 // A message: its bytes, and what it asks for.
-fn message(sheet: Sheet, paper: &mut [u8], body: &[u8]) -> Sheet {
+fn message(start: u16, sheet: Sheet, paper: &mut [u8], body: &[u8]) -> Sheet {
     let shown = show::bytes(sheet.bytes(paper, b"> "), paper, body);
     if is_single(body, 0x7F) {
         return shown.bytes(paper, b"handshake");
     }
-    match frame::read(CRC_START, body) {
+    match frame::read(start, body) {
         Reading::Sound { second, length: _ } => words::command(shown, paper, second),
         Reading::Spoiled { place: _ } => shown.bytes(paper, b"no sound frame"),
     }
 }
 
 // A reply: its bytes, and what it says.
-fn reply(sheet: Sheet, paper: &mut [u8], body: &[u8]) -> Sheet {
+fn reply(start: u16, sheet: Sheet, paper: &mut [u8], body: &[u8]) -> Sheet {
     let shown = show::bytes(sheet.bytes(paper, b"< "), paper, body);
     if body.len() == 0 {
         return shown.bytes(paper, b"no reply");
@@ -85,7 +90,7 @@ fn reply(sheet: Sheet, paper: &mut [u8], body: &[u8]) -> Sheet {
     if is_single(body, 0x79) {
         return shown.bytes(paper, b"handshake answered");
     }
-    match frame::read(CRC_START, body) {
+    match frame::read(start, body) {
         Reading::Sound { second, length: _ } => result(shown, paper, second),
         Reading::Spoiled { place: _ } => shown.bytes(paper, b"no sound frame"),
     }

@@ -58,7 +58,7 @@ module _ (settings : Settings) (device : Device) (right : isRate (device .sessio
   rate-way message answer (greeted here hail) = right
   rate-way message answer (unshaken asks waits) = right
   rate-way message answer (turnedAway asks talks number found) = right
-  rate-way message answer (workedOn asks talks pass) = work-rate (dataOf message) (requestIn message) pass
+  rate-way message answer (workedOn asks talks pass) = work-rate (dataOf message) (requestIn (settings .start) message) pass
 
 module _ (settings : Settings) (device : Device) (message : List ℕ) (room : ℕ) where
   -- by the way of the call

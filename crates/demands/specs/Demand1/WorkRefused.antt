@@ -11,7 +11,7 @@ use Rattle.memory.specs.Stores.{same}
 use Rattle.memory.specs.declared.Programmed.{Programmed}
 use Rattle.tm32.specs.After.{Telling, lay, replied}
 use Rattle.tm32.specs.Device.{Device, Memory, bytesAt}
-use Rattle.tm32_asks.specs.Request.{crcStart, requestIn}
+use Rattle.tm32_asks.specs.Request.{requestIn}
 use Rattle.tm32.specs.Respond.{Answered, greet, helloBack, refuse, replyTo, respond}
 use Rattle.tm32_asks.specs.Results.{readbackDiffers, workDone}
 use Rattle.tm32.specs.Work.{programmedResult, readback, work, written}
@@ -69,20 +69,20 @@ module _ (settings : Settings) (device : Device) (payload : List ℕ) where
 
 module _ (settings : Settings) (device : Device) (message : List ℕ) (number : ℕ) (refusal : isRefusal number ≡ true) where
   -- by the way of the message
-  pub stays-way : (answer : Answered) → Heard settings device message answer → answer .reply ≡ frame crcStart number [] → answer .device ≡ device
+  pub stays-way : (answer : Answered) → Heard settings device message answer → answer .reply ≡ frame (settings .start) number [] → answer .device ≡ device
   unfolding greet refuse replyTo
   stays-way answer (silent unheeded) is = refl
-  stays-way answer (greeted here hail) is = absurd (no-frame helloBack number [] refl is)
+  stays-way answer (greeted here hail) is = absurd (no-frame (settings .start) helloBack number [] refl is)
   stays-way answer (unshaken asks waits) is = refl
   stays-way answer (turnedAway asks talks other found) is = refl
   stays-way answer (workedOn asks talks pass) is =
-      let result = same-number _ number _ [] is in
-      work-refused settings device (dataOf message) (requestIn message) (ap isRefusal result ∙ refusal)
+      let result = same-number (settings .start) _ number _ [] is in
+      work-refused settings device (dataOf message) (requestIn (settings .start) message) (ap isRefusal result ∙ refusal)
 
   -- by the way of the call
-  pub stays-call : (room : ℕ) (outcome : Telling) → Called settings device message room outcome → outcome .told ≡ replied (frame crcStart number []) → outcome .device ≡ device
+  pub stays-call : (room : ℕ) (outcome : Telling) → Called settings device message room outcome → outcome .told ≡ replied (frame (settings .start) number []) → outcome .device ≡ device
   stays-call room outcome (heard pass) is =
-      let reply : respond settings device message .reply ≡ frame crcStart number [] = cc in
+      let reply : respond settings device message .reply ≡ frame (settings .start) number [] = cc in
       stays-way (respond settings device message) (heard-so settings device message) reply
   stays-call room outcome (unheard other found) is = refl
 

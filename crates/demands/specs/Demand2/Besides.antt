@@ -26,7 +26,7 @@ use Rattle.demands.specs.Messages.Ways.{heard-so, memory-after, reply-to
 -- no message makes the flash, the RAM or the NVR longer or shorter, whatever their lengths are
 pub lengths-stay : (settings : Settings) (device : Device) (message : List ℕ) (room : ℕ) → SameLengths (device .memory) (tell settings device message room .device .memory)
 lengths-stay settings device message room =
-    memory-after settings device message room (SameLengths (device .memory)) (unchanged (device .memory)) (work-lengths settings device room (dataOf message) (requestIn message))
+    memory-after settings device message room (SameLengths (device .memory)) (unchanged (device .memory)) (work-lengths settings device room (dataOf message) (requestIn (settings .start) message))
 
 module _ (settings : Settings) (sized : Sized settings) (device : Device) (message : List ℕ) where
   -- a reply that is told is never longer than the room that must be lent for it
@@ -43,7 +43,7 @@ module _ (settings : Settings) (sized : Sized settings) (device : Device) (messa
 pub memory-bytes : (settings : Settings) (device : Device) (message : List ℕ) (room : ℕ) → MemoryBytes (device .memory) → AllBytes message
     → MemoryBytes (tell settings device message room .device .memory)
 memory-bytes settings device message room all given =
-    memory-after settings device message room MemoryBytes all (work-bytes settings device room (dataOf message) all (data-bytes message given) (requestIn message))
+    memory-after settings device message room MemoryBytes all (work-bytes settings device room (dataOf message) all (data-bytes message given) (requestIn (settings .start) message))
 
 module _ (settings : Settings) (all : SettingsBytes settings) where
   -- a reply that is told is made of bytes

@@ -44,9 +44,9 @@ wipesBy options payload ReadOptions = false
 wipesBy options payload HeartBeat = false
 wipesBy options payload Misshapen = false
 
--- The same of a message.
-unfoldable pub wiping : Device → List ℕ → Bool
-wiping device message = wipesBy (optionBytes (device .memory .nvr)) (dataOf message) (requestIn message)
+-- The same of a message, where a CRC starts from a value.
+unfoldable pub wiping : ℕ → Device → List ℕ → Bool
+wiping start device message = wipesBy (optionBytes (device .memory .nvr)) (dataOf message) (requestIn start message)
 
 -- The page of an address in the flash.
 abbrev pub pageOf : ℕ → ℕ

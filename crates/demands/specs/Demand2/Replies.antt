@@ -5,7 +5,6 @@ use mathlib.Core.List.{List, [], _∷_}
 use mathlib.Core.Path.{_≡_}
 use lib.ListN.{length}
 use Rattle.frame.specs.Frame.{frame}
-use Rattle.tm32_asks.specs.Request.{crcStart}
 use Rattle.tm32.specs.Respond.{helloBack}
 use Rattle.tm32_asks.specs.declared.Request.{Request}
 use Rattle.tm32_asks.specs.declared.Request.the-variants.{Pps, Get, Read, Write, MemoryCrc, Erase, Go, WriteOptions, ReadOptions, HeartBeat, Misshapen}
@@ -20,11 +19,11 @@ results = 0x90 ∷ 0x80 ∷ 0x91 ∷ 0xF5 ∷ 0xF0 ∷ 0xF2 ∷ 0xF3 ∷ 0xF1 �
 unfoldable pub isResult : ℕ → Bool
 isResult number = isOneOf results number
 
--- What a reply can be: nothing, the answer to the handshake, or the frame of such a result.
-pub data Reply : List ℕ → Type 0 where
-  nothing : Reply []
-  greeting : Reply helloBack
-  framed : (number : ℕ) (payload : List ℕ) → isResult number ≡ true → Reply (frame crcStart number payload)
+-- What a reply can be, where a CRC starts from a value: nothing, the answer to the handshake, or the frame of such a result.
+pub data Reply (start : ℕ) : List ℕ → Type 0 where
+  nothing : Reply start []
+  greeting : Reply start helloBack
+  framed : (number : ℕ) (payload : List ℕ) → isResult number ≡ true → Reply start (frame start number payload)
 
 -- That the settings have the lengths that Get tells of: two bytes of version, and twelve of serial number.
 pub record Sized (settings : Settings) : Type 0 where

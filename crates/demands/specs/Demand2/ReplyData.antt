@@ -9,7 +9,7 @@ use lib.ListN.{drop-of-length-le, length}
 use Rattle.frame.specs.Frame.{dataOf, frame}
 use Rattle.frame.proofs.Laws.{length-frame}
 use Rattle.tm32.specs.Device.{Device}
-use Rattle.tm32_asks.specs.Request.{crcStart, requestIn}
+use Rattle.tm32_asks.specs.Request.{requestIn}
 use Rattle.tm32.specs.Respond.{Answered, greet, helloBack, refuse, replyTo, respond}
 use Rattle.tm32_asks.specs.Results.{noHandshake, workDone}
 use Rattle.tm32.specs.Work.{work}
@@ -51,35 +51,35 @@ not-done settings device payload HeartBeat other = refl
 not-done settings device payload Misshapen other = refl
 
 -- a frame that is one without data has none
-bare : (one other : ℕ) (payload : List ℕ) → frame crcStart one [] ≡ frame crcStart other payload → payload ≡ []
-bare one other payload is =
-    let sizes : 0 + 6 ≡ length payload + 6 = sym (length-frame crcStart one []) ∙ ap length is ∙ length-frame crcStart other payload in
+bare : (start one other : ℕ) (payload : List ℕ) → frame start one [] ≡ frame start other payload → payload ≡ []
+bare start one other payload is =
+    let sizes : 0 + 6 ≡ length payload + 6 = sym (length-frame start one []) ∙ ap length is ∙ length-frame start other payload in
     drop-of-length-le payload {i = 0} (omega arith)
 
 module _ (settings : Settings) (device : Device) (message : List ℕ) where
   -- by the way of the message
-  pub bare-way : (number : ℕ) (payload : List ℕ) (answer : Answered) → Heard settings device message answer → answer .reply ≡ frame crcStart number payload
+  pub bare-way : (number : ℕ) (payload : List ℕ) (answer : Answered) → Heard settings device message answer → answer .reply ≡ frame (settings .start) number payload
       → (number ≡ workDone → ⊥) → payload ≡ []
   unfolding greet refuse replyTo
-  bare-way number payload answer (silent unheeded) is other = absurd (no-frame [] number payload refl is)
-  bare-way number payload answer (greeted here hail) is other = absurd (no-frame helloBack number payload refl is)
-  bare-way number payload answer (unshaken asks waits) is other = bare noHandshake number payload is
-  bare-way number payload answer (turnedAway asks talks first found) is other = bare first number payload is
+  bare-way number payload answer (silent unheeded) is other = absurd (no-frame (settings .start) [] number payload refl is)
+  bare-way number payload answer (greeted here hail) is other = absurd (no-frame (settings .start) helloBack number payload refl is)
+  bare-way number payload answer (unshaken asks waits) is other = bare (settings .start) noHandshake number payload is
+  bare-way number payload answer (turnedAway asks talks first found) is other = bare (settings .start) first number payload is
   bare-way number payload answer (workedOn asks talks pass) is other =
-      let none = not-done settings device (dataOf message) (requestIn message) (λ done. other (sym (same-number _ number _ payload is) ∙ done)) in
-      bare _ number payload (rw none at is)
+      let none = not-done settings device (dataOf message) (requestIn (settings .start) message) (λ done. other (sym (same-number (settings .start) _ number _ payload is) ∙ done)) in
+      bare (settings .start) _ number payload (rw none at is)
 
   -- by the way of the message
-  by-request : (answer : Answered) → Heard settings device message answer → tellsData (requestIn message) ≡ false → length (answer .reply) ≤ 6
+  by-request : (answer : Answered) → Heard settings device message answer → tellsData (requestIn (settings .start) message) ≡ false → length (answer .reply) ≤ 6
   unfolding greet refuse replyTo
   by-request answer (silent unheeded) other = lit≤ tt
   by-request answer (greeted here hail) other = lit≤ tt
-  by-request answer (unshaken asks waits) other = omega (arith, length-frame crcStart noHandshake [])
-  by-request answer (turnedAway asks talks number found) other = omega (arith, length-frame crcStart number [])
+  by-request answer (unshaken asks waits) other = omega (arith, length-frame (settings .start) noHandshake [])
+  by-request answer (turnedAway asks talks number found) other = omega (arith, length-frame (settings .start) number [])
   by-request answer (workedOn asks talks pass) other =
-      let done = work settings device (dataOf message) (requestIn message) in
-      omega (arith, length-frame crcStart (done .result) (done .payload), ap length (no-data settings device (dataOf message) (requestIn message) other))
+      let done = work settings device (dataOf message) (requestIn (settings .start) message) in
+      omega (arith, length-frame (settings .start) (done .result) (done .payload), ap length (no-data settings device (dataOf message) (requestIn (settings .start) message) other))
 
   -- and the reply to any other request than those three is no longer than a frame without data
-  pub only-three : tellsData (requestIn message) ≡ false → length (respond settings device message .reply) ≤ 6
+  pub only-three : tellsData (requestIn (settings .start) message) ≡ false → length (respond settings device message .reply) ≤ 6
   only-three other = by-request (respond settings device message) (heard-so settings device message) other

@@ -14,7 +14,7 @@ use Rattle.tm32.specs.Device.{Device, bytesAt}
 use Rattle.tm32_asks.specs.Map.{nvrStart, optionsLength, optionsStart}
 use Rattle.tm32_asks.specs.Numbers.{long}
 use Rattle.tm32_asks.specs.Options.{optionBytes}
-use Rattle.tm32_asks.specs.Request.{crcStart, requestIn}
+use Rattle.tm32_asks.specs.Request.{requestIn}
 use Rattle.tm32.specs.Respond.{Answered, greet, helloBack, refuse, replyTo, respond}
 use Rattle.tm32_asks.specs.Results.{noHandshake, readbackDiffers, workDone, wrongCrc, wrongShape}
 use Rattle.tm32.specs.Work.{compared, information, work, written}
@@ -54,7 +54,7 @@ module _ (P : ℕ → Type 0) (done : P workDone) (differs : P readbackDiffers) 
       let bytes = drop 5 payload in
       let after = written (device .memory) address bytes in
       of-readback P done differs flag address bytes after
-  of-results settings device payload (MemoryCrc address count wanted) = of-both P (eqb (crc crcStart (bytesAt (device .memory) address count)) wanted) done wrong
+  of-results settings device payload (MemoryCrc address count wanted) = of-both P (eqb (crc (settings .start) (bytesAt (device .memory) address count)) wanted) done wrong
   of-results settings device payload (Erase first count) = done
   of-results settings device payload (Go address) = done
   of-results settings device payload WriteOptions = done
@@ -69,24 +69,24 @@ work-result = of-results (λ (number : ℕ). isResult number ≡ true) refl refl
 
 module _ (settings : Settings) (device : Device) (message : List ℕ) where
   -- by the way of the message
-  by-way : (answer : Answered) → Heard settings device message answer → Reply (answer .reply)
+  by-way : (answer : Answered) → Heard settings device message answer → Reply (settings .start) (answer .reply)
   unfolding greet refuse replyTo
   by-way answer (silent unheeded) = nothing
   by-way answer (greeted here hail) = greeting
   by-way answer (unshaken asks waits) = framed noHandshake [] unshaken-result
-  by-way answer (turnedAway asks talks number found) = framed number [] (refusal-result device (requestIn message) number found)
-  by-way answer (workedOn asks talks pass) = framed _ _ (work-result settings device (dataOf message) (requestIn message))
+  by-way answer (turnedAway asks talks number found) = framed number [] (refusal-result device (requestIn (settings .start) message) number found)
+  by-way answer (workedOn asks talks pass) = framed _ _ (work-result settings device (dataOf message) (requestIn (settings .start) message))
 
   -- every reply is one of the three
-  pub reply-so : Reply (respond settings device message .reply)
+  pub reply-so : Reply (settings .start) (respond settings device message .reply)
   reply-so = by-way (respond settings device message) (heard-so settings device message)
 
 -- a frame of another number is none of them
-pub other-result : (bytes payload : List ℕ) → Reply bytes → bytes ≡ frame crcStart 0x93 payload → ⊥
+pub other-result : (start : ℕ) (bytes payload : List ℕ) → Reply start bytes → bytes ≡ frame start 0x93 payload → ⊥
 unfolding isResult isOneOf results
-other-result bytes payload nothing is = no-frame [] 0x93 payload refl is
-other-result bytes payload greeting is = no-frame helloBack 0x93 payload refl is
-other-result bytes payload (framed number own table) is = false≢true (ap isResult (sym (same-number number 0x93 own payload is)) ∙ table)
+other-result start bytes payload nothing is = no-frame start [] 0x93 payload refl is
+other-result start bytes payload greeting is = no-frame start helloBack 0x93 payload refl is
+other-result start bytes payload (framed number own table) is = false≢true (ap isResult (sym (same-number start number 0x93 own payload is)) ∙ table)
 
 -- ---- lengths
 
@@ -122,11 +122,11 @@ module _ (settings : Settings) (sized : Sized settings) (device : Device) (messa
   unfolding greet refuse replyTo
   by-length answer (silent unheeded) = lit≤ tt
   by-length answer (greeted here hail) = lit≤ tt
-  by-length answer (unshaken asks waits) = omega (arith, length-frame crcStart noHandshake [])
-  by-length answer (turnedAway asks talks number found) = omega (arith, length-frame crcStart number [])
+  by-length answer (unshaken asks waits) = omega (arith, length-frame (settings .start) noHandshake [])
+  by-length answer (turnedAway asks talks number found) = omega (arith, length-frame (settings .start) number [])
   by-length answer (workedOn asks talks pass) =
-      let done = work settings device (dataOf message) (requestIn message) in
-      omega (arith, length-frame crcStart (done .result) (done .payload), payload-short settings sized device (dataOf message) (requestIn message) pass)
+      let done = work settings device (dataOf message) (requestIn (settings .start) message) in
+      omega (arith, length-frame (settings .start) (done .result) (done .payload), payload-short settings sized device (dataOf message) (requestIn (settings .start) message) pass)
 
   -- so no reply is longer than the room that must be lent for it
   pub reply-short : length (respond settings device message .reply) ≤ 1030

@@ -71,15 +71,15 @@ wiping-writes options payload HeartBeat wipe = absurd (false≢true wipe)
 wiping-writes options payload Misshapen wipe = absurd (false≢true wipe)
 
 -- what is shorter than a frame asks for nothing
-short-misshapen : (message : List ℕ) → ltb (length message) 6 ≡ true → requestIn message ≡ Misshapen
+short-misshapen : (start : ℕ) (message : List ℕ) → ltb (length message) 6 ≡ true → requestIn start message ≡ Misshapen
 unfolding requestIn readingResult reading
-short-misshapen message short = rw short
+short-misshapen start message short = rw short
 
-module _ (device : Device) (message : List ℕ) (wipe : wiping device message ≡ true) where
+module _ (start : ℕ) (device : Device) (message : List ℕ) (wipe : wiping start device message ≡ true) where
   -- so a message that wipes is as long as a frame
   not-short : ltb (length message) 6 ≡ true → ⊥
   unfolding wiping wipesBy
-  not-short short = false≢true (rw (short-misshapen message short) at wipe)
+  not-short short = false≢true (rw (short-misshapen start message short) at wipe)
 
   -- and neither empty nor the handshake
   pub wiping-asks : NeitherEmptyNorHello message

@@ -17,7 +17,7 @@ use Rattle.tm32_asks.specs.Map.{blank, flashLength, flashStart, inFlash, inRam,
 use Rattle.tm32_asks.specs.Numbers.{long}
 use Rattle.tm32_asks.specs.Options.{optionBytes}
 use Rattle.tm32.specs.Promises.{Lent}
-use Rattle.tm32_asks.specs.Request.{crcStart, requestIn}
+use Rattle.tm32_asks.specs.Request.{requestIn}
 use Rattle.tm32.specs.Respond.{Answered, greet, refuse, replyTo}
 use Rattle.tm32_asks.specs.Results.{noHandshake}
 use Rattle.tm32.specs.Work.{commandWord, erased, information, wiped, wipes, withOptions, work}
@@ -113,11 +113,11 @@ module _ (settings : Settings) (device : Device) (room : ℕ) (payload : List �
 -- ---- the reply
 
 -- a result that 01 names is a byte, so its frame is made of bytes
-framed-bytes : (number : ℕ) (payload : List ℕ) → isResult number ≡ true → AllBytes payload → AllBytes (frame crcStart number payload)
+framed-bytes : (start number : ℕ) (payload : List ℕ) → isResult number ≡ true → AllBytes payload → AllBytes (frame start number payload)
 unfolding isResult results passAll
-framed-bytes number payload is all =
+framed-bytes start number payload is all =
     let small = one-of-so (λ (one : ℕ). ltb one 256) results number refl is in
-    frame-bytes crcStart number payload (ltb-true number 256 small) all
+    frame-bytes start number payload (ltb-true number 256 small) all
 
 module _ (settings : Settings) (all : SettingsBytes settings) where
   -- what Get tells
@@ -158,8 +158,9 @@ module _ (settings : Settings) (all : SettingsBytes settings) where
   unfolding greet refuse replyTo
   bytes-way device message bytes answer (silent unheeded) = none-bytes
   bytes-way device message bytes answer (greeted here hail) = more-bytes 0x79 [] (lit< tt) none-bytes
-  bytes-way device message bytes answer (unshaken asks waits) = framed-bytes noHandshake [] unshaken-result none-bytes
-  bytes-way device message bytes answer (turnedAway asks talks number found) = framed-bytes number [] (refusal-result device (requestIn message) number found) none-bytes
+  bytes-way device message bytes answer (unshaken asks waits) = framed-bytes (settings .start) noHandshake [] unshaken-result none-bytes
+  bytes-way device message bytes answer (turnedAway asks talks number found) =
+      framed-bytes (settings .start) number [] (refusal-result device (requestIn (settings .start) message) number found) none-bytes
   bytes-way device message bytes answer (workedOn asks talks pass) =
       let payload = dataOf message in
-      framed-bytes _ _ (work-result settings device payload (requestIn message)) (payload-bytes device payload (requestIn message) bytes)
+      framed-bytes (settings .start) _ _ (work-result settings device payload (requestIn (settings .start) message)) (payload-bytes device payload (requestIn (settings .start) message) bytes)

@@ -252,9 +252,9 @@ module _ (address : ℕ) (flashed : inFlash address 1 ≡ true) where
 
 module _ (settings : Settings) (device : Device) (message : List ℕ) (room address : ℕ) where
   -- a byte stays that is not named where the work is done
-  pub told-stays : inReadRegion address 1 ≡ true → (Known device room (dataOf message) (requestIn message) → named (requestIn message) address ≡ false)
-      → (wiping device message && inFlash address 1) ≡ false → byteAt (tell settings device message room .device .memory) address ≡ byteAt (device .memory) address
+  pub told-stays : inReadRegion address 1 ≡ true → (Known device room (dataOf message) (requestIn (settings .start) message) → named (requestIn (settings .start) message) address ≡ false)
+      → (wiping (settings .start) device message && inFlash address 1) ≡ false → byteAt (tell settings device message room .device .memory) address ≡ byteAt (device .memory) address
   unfolding wiping
   told-stays readable unnamed spared =
       memory-after settings device message room (λ (memory : Memory). byteAt memory address ≡ byteAt (device .memory) address) refl
-      (λ known. work-stays settings device room (dataOf message) address readable (requestIn message) (unnamed known) spared known)
+      (λ known. work-stays settings device room (dataOf message) address readable (requestIn (settings .start) message) (unnamed known) spared known)

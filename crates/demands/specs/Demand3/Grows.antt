@@ -44,58 +44,59 @@ pub calls-alike : (one other : Device) (room : ℕ) → AlikeButOptions one othe
 unfolding callChecks
 calls-alike one other room alike = rw (alike .session, alike .flash, alike .ram, alike .nvrLength)
 
-checks-alike : (strict loose : Device) (event : Event) → Stricter strict loose → testedFirst strict event ≡ testedFirst loose event
+checks-alike : (start : ℕ) (strict loose : Device) (event : Event) → Stricter strict loose → testedFirst start strict event ≡ testedFirst start loose event
 unfolding testedFirst
-checks-alike strict loose (sent message room) stricter = rw (calls-alike strict loose room (stricter .alike), stricter .alike .session)
-checks-alike strict loose (restarted link) stricter = refl
+checks-alike start strict loose (sent message room) stricter = rw (calls-alike strict loose room (stricter .alike), stricter .alike .session)
+checks-alike start strict loose (restarted link) stricter = refl
 
 -- ---- protection only grows
 
 -- a number lets a request pass only where it says that work is done
-pass-done : (number : ℕ) → against number ≡ passes → number ≡ workDone
+pass-done : (start number : ℕ) → against start number ≡ passes → number ≡ workDone
 unfolding against
-pass-done number is = by-test (eqb number workDone) refl is
+pass-done start number is = by-test (eqb number workDone) refl is
   where
-    by-test : (test : Bool) → eqb number workDone ≡ test → cond test passes (refuses (refusal number)) ≡ passes → number ≡ workDone
+    by-test : (test : Bool) → eqb number workDone ≡ test → cond test passes (refuses (refusal start number)) ≡ passes → number ≡ workDone
     by-test true same is = eqb-true number workDone same
     by-test false other is =
         let never : true ≡ false = cc in
         absurd (true≢false never)
 
 -- and then it does
-done-pass : (number : ℕ) → number ≡ workDone → against number ≡ passes
+done-pass : (start number : ℕ) → number ≡ workDone → against start number ≡ passes
 unfolding against
-done-pass number is = rw is
+done-pass start number is = rw is
 
 -- protection, of a request
-request-grows : (strict loose : List ℕ) (request : Request) → ProtectAll strict loose → against (verdict workDone (protections strict request)) ≡ passes
-    → against (verdict workDone (protections loose request)) ≡ passes
-request-grows strict loose request protects is =
-    let pass = none-fails workDone (protections strict request) (protections-others strict request) (pass-done _ is) in
-    done-pass _ (all-pass workDone (protections loose request) (still-passes strict loose protects request pass))
+request-grows : (start : ℕ) (strict loose : List ℕ) (request : Request) → ProtectAll strict loose → against start (verdict workDone (protections strict request)) ≡ passes
+    → against start (verdict workDone (protections loose request)) ≡ passes
+request-grows start strict loose request protects is =
+    let pass = none-fails workDone (protections strict request) (protections-others strict request) (pass-done start _ is) in
+    done-pass start _ (all-pass workDone (protections loose request) (still-passes strict loose protects request pass))
 
 -- and of an event
-protection-grows : (strict loose : Device) (event : Event) → Stricter strict loose → protectedFrom strict event ≡ passes → protectedFrom loose event ≡ passes
+protection-grows : (start : ℕ) (strict loose : Device) (event : Event) → Stricter strict loose → protectedFrom start strict event ≡ passes → protectedFrom start loose event ≡ passes
 unfolding protectedFrom byMessage
-protection-grows strict loose (sent message room) stricter free =
+protection-grows start strict loose (sent message room) stricter free =
     rw (sym (stricter .alike .session))
     (of-message (λ choose.
-    choose (Verdict Told) passes passes passes (against (verdict workDone (protections (optionBytes (strict .memory .nvr)) (requestIn message)))) ≡ passes
-    → choose (Verdict Told) passes passes passes (against (verdict workDone (protections (optionBytes (loose .memory .nvr)) (requestIn message)))) ≡ passes)
-    (strict .session .state) message (λ unheeded is. refl) (λ here hail is. refl) (λ asks waits is. refl) (λ asks talks is. request-grows _ _ (requestIn message) (stricter .protects) is) free)
-protection-grows strict loose (restarted link) stricter free = refl
+    choose (Verdict Told) passes passes passes (against start (verdict workDone (protections (optionBytes (strict .memory .nvr)) (requestIn start message)))) ≡ passes
+    → choose (Verdict Told) passes passes passes (against start (verdict workDone (protections (optionBytes (loose .memory .nvr)) (requestIn start message)))) ≡ passes)
+    (strict .session .state) message (λ unheeded is. refl) (λ here hail is. refl) (λ asks waits is. refl)
+    (λ asks talks is. request-grows start _ _ (requestIn start message) (stricter .protects) is) free)
+protection-grows start strict loose (restarted link) stricter free = refl
 
 -- ---- a refusal is known by its number
 
 -- the result of a refusal is its number
-refusal-number : (number : ℕ) → isProtectionRefusal (refusal number) ≡ isProtection number
+refusal-number : (start number : ℕ) → isProtectionRefusal (refusal start number) ≡ isProtection number
 unfolding isProtectionRefusal frame covered
-refusal-number number = refl
+refusal-number start number = refl
 
 -- before the handshake it is another
-unshaken-other : isProtectionRefusal (refusal noHandshake) ≡ false
+unshaken-other : (start : ℕ) → isProtectionRefusal (refusal start noHandshake) ≡ false
 unfolding isOneOf
-unshaken-other = refusal-number noHandshake
+unshaken-other start = refusal-number start noHandshake
 
 -- what is known of a refusal that is told
 told-so : (P : Told → Type 0) (told other : Told) → P told → refuses told ≡ refuses other → P other
@@ -118,41 +119,41 @@ failed-so test list all failed = by-verdict (told workDone list (verdict workDon
     by-verdict (oneFails found) = number-so test list (verdict workDone list) all found
 
 -- the number of a refusal passes a test that all the numbers of its checks pass
-against-so : (P : Told → Type 0) (test : ℕ → Bool) (list : List Check) → passAll test (numbersOf list) ≡ true → ((number : ℕ) → test number ≡ true → P (refusal number))
-    → (told : Told) → against (verdict workDone list) ≡ refuses told → P told
+against-so : (start : ℕ) (P : Told → Type 0) (test : ℕ → Bool) (list : List Check) → passAll test (numbersOf list) ≡ true → ((number : ℕ) → test number ≡ true → P (refusal start number))
+    → (told : Told) → against start (verdict workDone list) ≡ refuses told → P told
 unfolding against
-against-so P test list all so told is = by-test (eqb (verdict workDone list) workDone) refl is
+against-so start P test list all so told is = by-test (eqb (verdict workDone list) workDone) refl is
   where
-    by-test : (done : Bool) → eqb (verdict workDone list) workDone ≡ done → cond done passes (refuses (refusal (verdict workDone list))) ≡ refuses told → P told
+    by-test : (done : Bool) → eqb (verdict workDone list) workDone ≡ done → cond done passes (refuses (refusal start (verdict workDone list))) ≡ refuses told → P told
     by-test true same is = absurd (nothing-told told is)
-    by-test false other is = told-so P (refusal (verdict workDone list)) told (so _ (failed-so test list all other)) is
+    by-test false other is = told-so P (refusal start (verdict workDone list)) told (so _ (failed-so test list all other)) is
 
 -- a check before protection never tells a refusal for protection
-check-kind : (device : Device) (event : Event) (told : Told) → testedFirst device event ≡ refuses told → isProtectionRefusal told ≡ false
+check-kind : (start : ℕ) (device : Device) (event : Event) (told : Told) → testedFirst start device event ≡ refuses told → isProtectionRefusal told ≡ false
 unfolding testedFirst isProtectionRefusal
-check-kind device (sent message room) =
+check-kind start device (sent message room) =
     let kind : Verdict Told → Type 0 = λ verdict. (told : Told) → verdict ≡ refuses told → isProtectionRefusal told ≡ false in
     let other : Told → Type 0 = λ told. isProtectionRefusal told ≡ false in
     let link = device .session .link in
     let number = verdict 0 (callChecks device room) in
     let free : kind passes = λ told is. absurd (nothing-told told is) in
     of-both kind (eqb number 0)
-    (of-four kind (device .session .state) message free free (λ told is. told-so other (refusal noHandshake) told unshaken-other is)
-    (against-so other isOther (checks link (requestIn message)) (checks-other link (requestIn message)) (λ number so. refusal-number number ∙ not-true _ so)))
+    (of-four kind (device .session .state) message free free (λ told is. told-so other (refusal start noHandshake) told (unshaken-other start) is)
+    (against-so start other isOther (checks link (requestIn start message)) (checks-other link (requestIn start message)) (λ number so. refusal-number start number ∙ not-true _ so)))
     (λ told is. told-so other (noReply number) told refl is)
-check-kind device (restarted link) = λ told is. absurd (nothing-told told is)
+check-kind start device (restarted link) = λ told is. absurd (nothing-told told is)
 
 -- and protection tells nothing else
-protection-kind : (device : Device) (event : Event) (told : Told) → protectedFrom device event ≡ refuses told → isProtectionRefusal told ≡ true
+protection-kind : (start : ℕ) (device : Device) (event : Event) (told : Told) → protectedFrom start device event ≡ refuses told → isProtectionRefusal told ≡ true
 unfolding protectedFrom
-protection-kind device (sent message room) =
+protection-kind start device (sent message room) =
     let kind : Verdict Told → Type 0 = λ verdict. (told : Told) → verdict ≡ refuses told → isProtectionRefusal told ≡ true in
     let options = optionBytes (device .memory .nvr) in
     let free : kind passes = λ told is. absurd (nothing-told told is) in
     of-four kind (device .session .state) message free free free
-    (against-so (λ told. isProtectionRefusal told ≡ true) isProtection (protections options (requestIn message)) (protections-own options (requestIn message))
-    (λ number so. refusal-number number ∙ so))
-protection-kind device (restarted link) = λ told is. absurd (nothing-told told is)
+    (against-so start (λ told. isProtectionRefusal told ≡ true) isProtection (protections options (requestIn start message)) (protections-own options (requestIn start message))
+    (λ number so. refusal-number start number ∙ so))
+protection-kind start device (restarted link) = λ told is. absurd (nothing-told told is)
 
 -- nor does work tell one
 work-kind : (settings : Settings) (device : Device) (event : Event) → tells isProtectionRefusal (doneWith settings device event .told) ≡ false
@@ -160,7 +161,7 @@ unfolding doneWith tells isProtectionRefusal greet refuse replyTo frame covered 
 work-kind settings device (sent message room) =
     let kind : Answered → Type 0 = λ answer. tells isProtectionRefusal (replies answer .told) ≡ false in
     of-four kind (device .session .state) message refl refl refl
-    (of-results (λ (number : ℕ). (isProtection number || false) ≡ false) refl refl refl refl settings device (dataOf message) (requestIn message))
+    (of-results (λ (number : ℕ). (isProtection number || false) ≡ false) refl refl refl refl settings device (dataOf message) (requestIn (settings .start) message))
 work-kind settings device (restarted link) = refl
 
 -- ---- the work does not look at the option bytes
@@ -172,36 +173,39 @@ hears-so false first told is = absurd (nothing-told told (sym is))
 
 module _ (settings : Settings) (strict loose : Device) (message : List ℕ) (room : ℕ) (stricter : Stricter strict loose) where
   -- what is known of a request that passes all that is tested
-  known-so : noneFails (callChecks strict room) ≡ true → against (verdict workDone (checks (strict .session .link) (requestIn message))) ≡ passes
-      → against (verdict workDone (protections (optionBytes (strict .memory .nvr)) (requestIn message))) ≡ passes → Known strict room (dataOf message) (requestIn message)
+  known-so : noneFails (callChecks strict room) ≡ true → against (settings .start) (verdict workDone (checks (strict .session .link) (requestIn (settings .start) message))) ≡ passes
+      → against (settings .start) (verdict workDone (protections (optionBytes (strict .memory .nvr)) (requestIn (settings .start) message))) ≡ passes
+      → Known strict room (dataOf message) (requestIn (settings .start) message)
   known-so hears checked free =
       let link = strict .session .link in
       let options = optionBytes (strict .memory .nvr) in
-      let request = requestIn message in
-      let first = pass-done (verdict workDone (checks link request)) checked in
-      let second = pass-done (verdict workDone (protections options request)) free in
+      let request = requestIn (settings .start) message in
+      let first = pass-done (settings .start) (verdict workDone (checks link request)) checked in
+      let second = pass-done (settings .start) (verdict workDone (protections options request)) free in
       record {
         sized = lent strict room hears;
-        shape = shaped-so message;
+        shape = shaped-so (settings .start) message;
         pass = none-fails workDone (checksOf link options request) (request-others link options request)
             (second-list-decides workDone (protections options request) (checks link request) (checks-others link request) first ∙ second);
       }
 
   -- a message
-  message-alike : optionMessage strict message room ≡ false → testedFirst strict (sent message room) ≡ passes → protectedFrom strict (sent message room) ≡ passes
+  message-alike : optionMessage (settings .start) strict message room ≡ false → testedFirst (settings .start) strict (sent message room) ≡ passes
+      → protectedFrom (settings .start) strict (sent message room) ≡ passes
       → SameWork Stricter (doneWith settings strict (sent message room)) (doneWith settings loose (sent message room))
   unfolding testedFirst protectedFrom doneWith byMessage optionMessage greet refuse
   message-alike spared checked free =
-      let request = requestIn message in
+      let request = requestIn (settings .start) message in
       let heard = hears-so (eqb (verdict 0 (callChecks strict room)) 0) _ _ checked in
-      let on : State → Step Device Told = λ state. replies (byMessage state message (answered loose []) (greet loose) (refuse loose noHandshake) (replyTo (work settings loose (dataOf message) request))) in
+      let on : State → Step Device Told = λ state. replies (byMessage state message (answered loose []) (greet loose) (refuse (settings .start) loose noHandshake)
+      (replyTo (settings .start) (work settings loose (dataOf message) request))) in
       subst (λ (state : State). SameWork Stricter (doneWith settings strict (sent message room)) (on state)) (ap (λ (session : Session). session .state) (stricter .alike .session))
       (of-message (λ choose.
-      choose (Verdict Told) passes passes (refuses (refusal noHandshake)) (against (verdict workDone (checks (strict .session .link) request))) ≡ passes
-      → choose (Verdict Told) passes passes passes (against (verdict workDone (protections (optionBytes (strict .memory .nvr)) request))) ≡ passes
+      choose (Verdict Told) passes passes (refuses (refusal (settings .start) noHandshake)) (against (settings .start) (verdict workDone (checks (strict .session .link) request))) ≡ passes
+      → choose (Verdict Told) passes passes passes (against (settings .start) (verdict workDone (protections (optionBytes (strict .memory .nvr)) request))) ≡ passes
       → SameWork Stricter
-      (replies (choose Answered (answered strict []) (greet strict) (refuse strict noHandshake) (replyTo (work settings strict (dataOf message) request))))
-      (replies (choose Answered (answered loose []) (greet loose) (refuse loose noHandshake) (replyTo (work settings loose (dataOf message) request)))))
+      (replies (choose Answered (answered strict []) (greet strict) (refuse (settings .start) strict noHandshake) (replyTo (settings .start) (work settings strict (dataOf message) request))))
+      (replies (choose Answered (answered loose []) (greet loose) (refuse (settings .start) loose noHandshake) (replyTo (settings .start) (work settings loose (dataOf message) request)))))
       (strict .session .state) message
       (λ unheeded first second. record { told = refl; stricter = stricter })
       (λ here hail first second.
@@ -214,8 +218,8 @@ module _ (settings : Settings) (strict loose : Device) (message : List ℕ) (roo
       (heard .1) free)
 
 -- and every event that neither reads nor writes the option bytes
-event-alike : (settings : Settings) (strict loose : Device) (event : Event) → Stricter strict loose → optionEvent strict event ≡ false → testedFirst strict event ≡ passes
-    → protectedFrom strict event ≡ passes → SameWork Stricter (doneWith settings strict event) (doneWith settings loose event)
+event-alike : (settings : Settings) (strict loose : Device) (event : Event) → Stricter strict loose → optionEvent (settings .start) strict event ≡ false
+    → testedFirst (settings .start) strict event ≡ passes → protectedFrom (settings .start) strict event ≡ passes → SameWork Stricter (doneWith settings strict event) (doneWith settings loose event)
 unfolding optionEvent doneWith
 event-alike settings strict loose (sent message room) stricter spared checked free = message-alike settings strict loose message room stricter spared checked free
 event-alike settings strict loose (restarted link) stricter spared checked free = record { told = refl; stricter = still-session strict loose stricter _ _ refl }
@@ -223,13 +227,13 @@ event-alike settings strict loose (restarted link) stricter spared checked free 
 -- ---- all of it together
 
 -- the chip brings all that the argument asks
-pub grows : (settings : Settings) → Growing (tm32 settings) optionEvent Stricter
+pub grows : (settings : Settings) → Growing (tm32 settings) (optionEvent (settings .start)) Stricter
 grows settings =
     record {
-      checks-alike = checks-alike;
-      protection-grows = protection-grows;
+      checks-alike = checks-alike (settings .start);
+      protection-grows = protection-grows (settings .start);
       work-alike = event-alike settings;
-      check-kind = check-kind;
-      protection-kind = protection-kind;
+      check-kind = check-kind (settings .start);
+      protection-kind = protection-kind (settings .start);
       work-kind = work-kind settings;
     }

@@ -11,7 +11,7 @@ use Rattle.tm32.specs.After.{Telling, Told, callChecks, noReply, replied, tell,
 use Rattle.tm32_asks.specs.Checks.{checks, protections, verdict}
 use Rattle.tm32.specs.Device.{Device, restart, withSession}
 use Rattle.tm32_asks.specs.Options.{ProtectAll, optionBytes}
-use Rattle.tm32_asks.specs.Request.{crcStart, requestIn}
+use Rattle.tm32_asks.specs.Request.{requestIn}
 use Rattle.tm32.specs.Respond.{Answered, answered, greet, refuse, replyTo, respond, serve, verdictOn}
 use Rattle.tm32_asks.specs.Results.{noHandshake, workDone}
 use Rattle.tm32.specs.Run.{Event, restarted, run, sent}
@@ -22,27 +22,27 @@ use Rattle.tm32_asks.proofs.Verdicts.{checks-others, first-list-decides, second
 use Rattle.demands.specs.Demand3.TwoDevices.{AlikeButOptions, happens, isProtectionRefusal}
 use Rattle.demands.specs.Messages.Ways.{byMessage, of-message}
 
--- What the caller is told of a refusal, and what a number says that may be one.
-abbrev pub refusal : ℕ → Told
-refusal number = replied (frame crcStart number [])
+-- What the caller is told of a refusal, where a CRC starts from a value, and what a number says that may be one.
+abbrev pub refusal : ℕ → ℕ → Told
+refusal start number = replied (frame start number [])
 
-unfoldable pub against : ℕ → Verdict Told
-against number = cond (eqb number workDone) passes (refuses (refusal number))
+unfoldable pub against : ℕ → ℕ → Verdict Told
+against start number = cond (eqb number workDone) passes (refuses (refusal start number))
 
 -- All that is tested before protection: the call, the handshake, and the checks of a request. A restart is never refused.
-unfoldable pub testedFirst : Device → Event → Verdict Told
-testedFirst device (sent message room) =
+unfoldable pub testedFirst : ℕ → Device → Event → Verdict Told
+testedFirst start device (sent message room) =
     let number : ℕ = verdict 0 (callChecks device room) in
     cond (eqb number 0)
-    (byMessage (device .session .state) message passes passes (refuses (refusal noHandshake)) (against (verdict workDone (checks (device .session .link) (requestIn message)))))
+    (byMessage (device .session .state) message passes passes (refuses (refusal start noHandshake)) (against start (verdict workDone (checks (device .session .link) (requestIn start message)))))
     (refuses (noReply number))
-testedFirst device (restarted link) = passes
+testedFirst start device (restarted link) = passes
 
 -- Protection, of a request.
-unfoldable pub protectedFrom : Device → Event → Verdict Told
-protectedFrom device (sent message room) =
-    byMessage (device .session .state) message passes passes passes (against (verdict workDone (protections (optionBytes (device .memory .nvr)) (requestIn message))))
-protectedFrom device (restarted link) = passes
+unfoldable pub protectedFrom : ℕ → Device → Event → Verdict Told
+protectedFrom start device (sent message room) =
+    byMessage (device .session .state) message passes passes passes (against start (verdict workDone (protections (optionBytes (device .memory .nvr)) (requestIn start message))))
+protectedFrom start device (restarted link) = passes
 
 -- What comes of an answer, and of a call.
 abbrev pub replies : Answered → Step Device Told
@@ -54,7 +54,8 @@ calls outcome = stepOf (outcome .device) (outcome .told ∷ [])
 -- What is done where nothing is against it.
 unfoldable pub doneWith : Settings → Device → Event → Step Device Told
 doneWith settings device (sent message room) =
-    replies (byMessage (device .session .state) message (answered device []) (greet device) (refuse device noHandshake) (replyTo (work settings device (dataOf message) (requestIn message))))
+    replies (byMessage (device .session .state) message (answered device []) (greet device) (refuse (settings .start) device noHandshake)
+    (replyTo (settings .start) (work settings device (dataOf message) (requestIn (settings .start) message))))
 doneWith settings device (restarted link) = stepOf (withSession device (restart (device .session) link)) []
 
 -- The chip, with its settings, as a device of our shape.
@@ -64,8 +65,8 @@ tm32 settings =
       Device = Device;
       Event = Event;
       Told = Told;
-      checks = testedFirst;
-      protection = protectedFrom;
+      checks = testedFirst (settings .start);
+      protection = protectedFrom (settings .start);
       work = doneWith settings;
       isProtection = isProtectionRefusal;
     }
@@ -80,22 +81,23 @@ pub record Stricter (strict loose : Device) : Type 0 where
 module _ (settings : Settings) (device : Device) (payload : List ℕ) (request : Request) where
   -- by whether a check fails
   by-checks : (passed : Bool) (first second both : ℕ) → eqb first workDone ≡ passed → (first ≡ workDone → both ≡ second) → ((first ≡ workDone → ⊥) → both ≡ first)
-      → replies (cond (eqb both workDone) (replyTo (work settings device payload request)) (refuse device both))
-      ≡ judged device (cond passed passes (refuses (refusal first))) (judged device (against second) (replies (replyTo (work settings device payload request))))
+      → replies (cond (eqb both workDone) (replyTo (settings .start) (work settings device payload request)) (refuse (settings .start) device both))
+      ≡ judged device (cond passed passes (refuses (refusal (settings .start) first)))
+      (judged device (against (settings .start) second) (replies (replyTo (settings .start) (work settings device payload request))))
   unfolding judged against refuse
   by-checks true first second both is behind ahead = rw (behind (eqb-true _ _ is)) (by-second (eqb second workDone))
     where
-      by-second : (passed : Bool) → replies (cond passed (replyTo (work settings device payload request)) (answered device (frame crcStart second [])))
-          ≡ judged device (cond passed passes (refuses (refusal second))) (replies (replyTo (work settings device payload request)))
+      by-second : (passed : Bool) → replies (cond passed (replyTo (settings .start) (work settings device payload request)) (answered device (frame (settings .start) second [])))
+          ≡ judged device (cond passed passes (refuses (refusal (settings .start) second))) (replies (replyTo (settings .start) (work settings device payload request)))
       by-second true = refl
       by-second false = refl
   by-checks false first second both is behind ahead = rw (ahead (eqb-false _ _ is), is)
 
   -- a request is judged by its checks, then by protection
   pub request-judged : replies (serve settings device payload request)
-      ≡ judged device (against (verdict workDone (checks (device .session .link) request)))
-      (judged device (against (verdict workDone (protections (optionBytes (device .memory .nvr)) request)))
-      (replies (replyTo (work settings device payload request))))
+      ≡ judged device (against (settings .start) (verdict workDone (checks (device .session .link) request)))
+      (judged device (against (settings .start) (verdict workDone (protections (optionBytes (device .memory .nvr)) request)))
+      (replies (replyTo (settings .start) (work settings device payload request))))
   unfolding serve verdictOn against
   request-judged =
       let first = checks (device .session .link) request in
@@ -117,13 +119,13 @@ message-judged : (settings : Settings) (device : Device) (message : List ℕ) (r
 unfolding tell respond stepIn testedFirst protectedFrom doneWith byMessage judged refuse
 message-judged settings device message room =
     let number = verdict 0 (callChecks device room) in
-    let request = requestIn message in
+    let request = requestIn (settings .start) message in
     by-call device (eqb number 0) number (respond settings device message) _ _
     (of-message (λ choose.
-    replies (choose Answered (answered device []) (greet device) (refuse device noHandshake) (serve settings device (dataOf message) request))
-    ≡ judged device (choose (Verdict Told) passes passes (refuses (refusal noHandshake)) (against (verdict workDone (checks (device .session .link) request))))
-    (judged device (choose (Verdict Told) passes passes passes (against (verdict workDone (protections (optionBytes (device .memory .nvr)) request))))
-    (replies (choose Answered (answered device []) (greet device) (refuse device noHandshake) (replyTo (work settings device (dataOf message) request))))))
+    replies (choose Answered (answered device []) (greet device) (refuse (settings .start) device noHandshake) (serve settings device (dataOf message) request))
+    ≡ judged device (choose (Verdict Told) passes passes (refuses (refusal (settings .start) noHandshake)) (against (settings .start) (verdict workDone (checks (device .session .link) request))))
+    (judged device (choose (Verdict Told) passes passes passes (against (settings .start) (verdict workDone (protections (optionBytes (device .memory .nvr)) request))))
+    (replies (choose Answered (answered device []) (greet device) (refuse (settings .start) device noHandshake) (replyTo (settings .start) (work settings device (dataOf message) request))))))
     (device .session .state) message (λ unheeded. refl) (λ here hail. refl) (λ asks waits. refl) (λ asks talks. request-judged settings device (dataOf message) request))
 
 -- what comes of an event is what the shape makes of checks, protection and work

@@ -17,7 +17,6 @@ use Rattle.shape.specs.MoreRights.{SameWork}
 use Rattle.tm32.specs.After.{replied}
 use Rattle.tm32_asks.specs.Checks.{checks, isLength, noneFails}
 use Rattle.tm32.specs.Device.{Device, atRate, bytesAt, inState, withFlash, withMemory, withNvr, withRam, withSession}
-use Rattle.tm32_asks.specs.Request.{crcStart}
 use Rattle.tm32_asks.specs.Map.{flashStart, inFlash, inNvr, inRam, inReadRegion, inUserNvr, inUserRegion, nvrLength, nvrStart, optionsLength, optionsStart, ramStart, userNvrLength, userNvrStart}
 use Rattle.tm32.specs.OptionMessages.{readsOptions, touchesOptions}
 use Rattle.tm32_asks.specs.Options.{optionBytes}
@@ -192,13 +191,13 @@ module _ (strict loose : Device) (room : ℕ) (stricter : Stricter strict loose)
 
 -- ---- the work of each command
 
-module _ (strict loose : Device) (stricter : Stricter strict loose) where
+module _ (start : ℕ) (strict loose : Device) (stricter : Stricter strict loose) where
   -- work with one result and one data is told the same
   done-alike : (one other : Worked) → one .result ≡ other .result → one .payload ≡ other .payload → Stricter (one .device) (other .device)
-      → SameWork Stricter (replies (replyTo one)) (replies (replyTo other))
+      → SameWork Stricter (replies (replyTo start one)) (replies (replyTo start other))
   unfolding replyTo
   done-alike one other result payload still =
-      record { told = ap₂ (λ (number : ℕ) (bytes : List ℕ). replied (frame crcStart number bytes) ∷ []) result payload; stricter = still }
+      record { told = ap₂ (λ (number : ℕ) (bytes : List ℕ). replied (frame start number bytes) ∷ []) result payload; stricter = still }
 
 -- a Read that is accepted has a length that it may have
 read-counted : (device : Device) (address count : ℕ) → noneFails (requestChecks device (Read address count)) ≡ true → isLength count ≡ true
@@ -208,36 +207,38 @@ read-counted device address count pass = not-false _ (next _ _ pass .0)
 module _ (settings : Settings) (strict loose : Device) (room : ℕ) (payload : List ℕ) (stricter : Stricter strict loose) where
   -- a write
   write-alike : (flag address count : ℕ) → Known strict room payload (Write flag address count)
-      → SameWork Stricter (replies (replyTo (work settings strict payload (Write flag address count)))) (replies (replyTo (work settings loose payload (Write flag address count))))
+      → SameWork Stricter (replies (replyTo (settings .start) (work settings strict payload (Write flag address count))))
+      (replies (replyTo (settings .start) (work settings loose payload (Write flag address count))))
   unfolding work readback Shaped
   write-alike flag address count known =
       let bytes = drop 5 payload in
       let inside : inUserRegion address (length bytes) ≡ true = rw (known .shape .counted) (write-accepted _ _ flag address count (known .pass) .inside) in
       let still = still-written strict loose room stricter (known .sized) address bytes inside in
       let back = bytes-same _ _ (still .alike) address (length bytes) (user-away address (length bytes) inside) in
-      done-alike strict loose stricter _ _
+      done-alike (settings .start) strict loose stricter _ _
       (ap (λ (now : List ℕ). programmedResult flag (cond (same now bytes) AsGiven Differs)) back) refl still
 
   -- every request that does not touch the option bytes
   pub work-alike : (request : Request) → Known strict room payload request → touchesOptions request ≡ false
-      → SameWork Stricter (replies (replyTo (work settings strict payload request))) (replies (replyTo (work settings loose payload request)))
+      → SameWork Stricter (replies (replyTo (settings .start) (work settings strict payload request))) (replies (replyTo (settings .start) (work settings loose payload request)))
   unfolding work touchesOptions erased compared
-  work-alike (Pps code) known spared = done-alike strict loose stricter _ _ refl refl (still-session strict loose stricter _ _ (ap (λ (session : Session). atRate session code) (stricter .alike .session)))
-  work-alike Get known spared = done-alike strict loose stricter _ _ refl refl stricter
+  work-alike (Pps code) known spared =
+      done-alike (settings .start) strict loose stricter _ _ refl refl (still-session strict loose stricter _ _ (ap (λ (session : Session). atRate session code) (stricter .alike .session)))
+  work-alike Get known spared = done-alike (settings .start) strict loose stricter _ _ refl refl stricter
   work-alike (Read address count) known spared =
       let inside = read-accepted _ _ address count (known .pass) .inside in
       let away = read-away address count (read-counted strict address count (known .pass)) inside spared in
-      done-alike strict loose stricter _ _ refl (bytes-same strict loose (stricter .alike) address count away) stricter
+      done-alike (settings .start) strict loose stricter _ _ refl (bytes-same strict loose (stricter .alike) address count away) stricter
   work-alike (Write flag address count) known spared = write-alike flag address count known
   work-alike (MemoryCrc address count wanted) known spared =
       let away = user-away address count (crc-accepted _ _ address count wanted (known .pass)) in
-      done-alike strict loose stricter _ _
-      (ap (λ (bytes : List ℕ). cond (eqb (crc crcStart bytes) wanted) workDone wrongCrc) (bytes-same strict loose (stricter .alike) address count away)) refl stricter
+      done-alike (settings .start) strict loose stricter _ _
+      (ap (λ (bytes : List ℕ). cond (eqb (crc (settings .start) bytes) wanted) workDone wrongCrc) (bytes-same strict loose (stricter .alike) address count away)) refl stricter
   work-alike (Erase first count) known spared =
-      done-alike strict loose stricter _ _ refl refl (still-flash strict loose stricter _ _ (ap (λ (flash : List ℕ). erased flash first count) (stricter .alike .flash)))
+      done-alike (settings .start) strict loose stricter _ _ refl refl (still-flash strict loose stricter _ _ (ap (λ (flash : List ℕ). erased flash first count) (stricter .alike .flash)))
   work-alike (Go address) known spared =
-      done-alike strict loose stricter _ _ refl refl (still-session strict loose stricter _ _ (ap (λ (session : Session). inState session (Gone address)) (stricter .alike .session)))
+      done-alike (settings .start) strict loose stricter _ _ refl refl (still-session strict loose stricter _ _ (ap (λ (session : Session). inState session (Gone address)) (stricter .alike .session)))
   work-alike WriteOptions known touching = absurd (true≢false touching)
   work-alike ReadOptions known touching = absurd (true≢false touching)
-  work-alike HeartBeat known spared = done-alike strict loose stricter _ _ refl refl stricter
-  work-alike Misshapen known spared = done-alike strict loose stricter _ _ refl refl stricter
+  work-alike HeartBeat known spared = done-alike (settings .start) strict loose stricter _ _ refl refl stricter
+  work-alike Misshapen known spared = done-alike (settings .start) strict loose stricter _ _ refl refl stricter

@@ -42,14 +42,14 @@ happens settings device event =
     let ran : Ran = run settings device (event ∷ []) in
     stepOf (ran .device) (ran .told)
 
--- Whether an event is a message that reads or writes the option bytes.
-unfoldable pub optionEvent : Device → Event → Bool
-optionEvent device (sent message room) = optionMessage device message room
-optionEvent device (restarted link) = false
+-- Whether an event is a message that reads or writes the option bytes, where a CRC starts from a value.
+unfoldable pub optionEvent : ℕ → Device → Event → Bool
+optionEvent start device (sent message room) = optionMessage start device message room
+optionEvent start device (restarted link) = false
 
--- Whether no event of a list does, each as it meets the device.
+-- Whether no event of a list does, each as it meets the device, with the start value of the settings.
 abbrev pub sparesOptions : Settings → Device → List Event → Bool
-sparesOptions settings device events = noneOf (happens settings) optionEvent device events
+sparesOptions settings device events = noneOf (happens settings) (optionEvent (settings .start)) device events
 
 -- The events of a list that the protection of a device permits: all but the messages that it refuses for protection. A looser device is sent these.
 abbrev pub permittedBy : Settings → Device → List Event → List Event

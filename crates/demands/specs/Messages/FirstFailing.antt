@@ -159,19 +159,19 @@ module _ (settings : Settings) (device : Device) (message : List ℕ) (room : �
 
 -- The two ways of a request: it is refused with the number of the first check that fails, or worked on.
 pub data Served (settings : Settings) (device : Device) (payload : List ℕ) (request : Request) : Answered → Type 0 where
-  refused : (number : ℕ) → FirstFailing (requestChecks device request) number → Served settings device payload request (refuse device number)
-  accepted : noneFails (requestChecks device request) ≡ true → Served settings device payload request (replyTo (work settings device payload request))
+  refused : (number : ℕ) → FirstFailing (requestChecks device request) number → Served settings device payload request (refuse (settings .start) device number)
+  accepted : noneFails (requestChecks device request) ≡ true → Served settings device payload request (replyTo (settings .start) (work settings device payload request))
 
 module _ (settings : Settings) (device : Device) (payload : List ℕ) (request : Request) where
   -- where a check of the request fails, it is refused with the number of the first
-  pub request-fails : (number : ℕ) → FirstFailing (requestChecks device request) number → serve settings device payload request ≡ refuse device number
+  pub request-fails : (number : ℕ) → FirstFailing (requestChecks device request) number → serve settings device payload request ≡ refuse (settings .start) device number
   unfolding serve verdictOn
   request-fails number found =
       let numbers = request-others (device .session .link) (optionBytes (device .memory .nvr)) request in
       rw (first-fails workDone (requestChecks device request) number found, not-passed workDone (requestChecks device request) number numbers found)
 
   -- where none does, it is worked on
-  pub request-passes : noneFails (requestChecks device request) ≡ true → serve settings device payload request ≡ replyTo (work settings device payload request)
+  pub request-passes : noneFails (requestChecks device request) ≡ true → serve settings device payload request ≡ replyTo (settings .start) (work settings device payload request)
   unfolding serve verdictOn
   request-passes pass = rw (all-pass workDone (requestChecks device request) pass)
 

@@ -4,20 +4,20 @@ use mathlib.Core.Bool.{Bool, true, false, cond, _||_, false≢true, true≢false
 use mathlib.Core.List.{List, []}
 use mathlib.Core.Path.{_≡_, refl, ap}
 use native.Mathlib.Omega.{arith}
-use borrow.Author.Tests.{eqb-false, eqb-true, ltb-false, not-false}
+use borrow.Author.Tests.{eqb-false}
 use lib.Dec.{eqb}
 use lib.ListN.{getD, length}
 use Rattle.frame.specs.Frame.{covered, dataOf, frame, headByte}
 use Rattle.memory.specs.Ranges.{within}
 use Rattle.memory.specs.Stores.{kept, replaced, same}
 use Rattle.memory.proofs.Laws.{region-holds}
-use Rattle.tm32.specs.After.{Telling, callChecks, replied, tell}
+use Rattle.tm32.specs.After.{Telling, replied, tell}
 use Rattle.tm32_asks.specs.Checks.{noneFails}
 use Rattle.tm32.specs.Device.{Device, Memory, withFlash, withNvr, withRam}
 use Rattle.tm32_asks.specs.Map.{flashStart, inFlash, inRam, inUserNvr, inUserRegion, nvrLength, nvrStart, ramStart, userNvrLength, userNvrStart}
 use Rattle.tm32.specs.OptionMessages.{isTalking}
 use Rattle.tm32.specs.Promises.{Lent}
-use Rattle.tm32_asks.specs.Request.{crcStart, requestIn}
+use Rattle.tm32_asks.specs.Request.{requestIn}
 use Rattle.tm32.specs.Respond.{Answered, answered, greet, hello, isGone, isWaiting, refuse, replyTo, respond, serve}
 use Rattle.tm32_asks.specs.Results.{noHandshake}
 use Rattle.tm32.specs.Work.{work, written}
@@ -25,7 +25,7 @@ use Rattle.tm32_asks.specs.declared.Request.{Request}
 use Rattle.tm32.specs.declared.Settings.{Settings}
 use Rattle.tm32.specs.declared.State.{State}
 use Rattle.tm32.specs.declared.State.the-variants.{Waiting, Talking, Gone}
-use Rattle.tm32_asks.proofs.Accepted.{Shaped, next, shaped-so}
+use Rattle.tm32_asks.proofs.Accepted.{Shaped, shaped-so}
 use Rattle.tm32.proofs.Passed.{lent}
 use Rattle.demands.specs.Messages.FirstFailing.{Called, FirstFailing, Served, accepted, called, heard, refused, requestChecks, served, unheard}
 
@@ -46,11 +46,12 @@ byMessage state message silent greeted unshaken asked =
 pub data Heard (settings : Settings) (device : Device) (message : List ℕ) : Answered → Type 0 where
   silent : (eqb (length message) 0 || isGone (device .session .state)) ≡ true → Heard settings device message (answered device [])
   greeted : isGone (device .session .state) ≡ false → same message hello ≡ true → Heard settings device message (greet device)
-  unshaken : NeitherEmptyNorHello message → isWaiting (device .session .state) ≡ true → Heard settings device message (refuse device noHandshake)
+  unshaken : NeitherEmptyNorHello message → isWaiting (device .session .state) ≡ true → Heard settings device message (refuse (settings .start) device noHandshake)
   turnedAway : NeitherEmptyNorHello message → isTalking (device .session .state) ≡ true
-      → (number : ℕ) → FirstFailing (requestChecks device (requestIn message)) number → Heard settings device message (refuse device number)
+      → (number : ℕ) → FirstFailing (requestChecks device (requestIn (settings .start) message)) number → Heard settings device message (refuse (settings .start) device number)
   workedOn : NeitherEmptyNorHello message → isTalking (device .session .state) ≡ true
-      → noneFails (requestChecks device (requestIn message)) ≡ true → Heard settings device message (replyTo (work settings device (dataOf message) (requestIn message)))
+      → noneFails (requestChecks device (requestIn (settings .start) message)) ≡ true
+      → Heard settings device message (replyTo (settings .start) (work settings device (dataOf message) (requestIn (settings .start) message)))
 
 -- Where a write of some bytes goes: into flash, where bits can only be cleared, into RAM, or into the user's NVR.
 pub data Stored (memory : Memory) (address : ℕ) (bytes : List ℕ) : Memory → Type 0 where
@@ -109,7 +110,7 @@ of-four P state message {one} {two} {three} {four} silence hail early request =
 
 module _ (settings : Settings) (device : Device) (message : List ℕ) where
   -- a request is refused or worked on
-  on-request : NeitherEmptyNorHello message → isTalking (device .session .state) ≡ true → (answer : Answered) → Served settings device (dataOf message) (requestIn message) answer
+  on-request : NeitherEmptyNorHello message → isTalking (device .session .state) ≡ true → (answer : Answered) → Served settings device (dataOf message) (requestIn (settings .start) message) answer
       → Heard settings device message answer
   on-request asks talks answer (refused number found) = turnedAway asks talks number found
   on-request asks talks answer (accepted pass) = workedOn asks talks pass
@@ -118,16 +119,17 @@ module _ (settings : Settings) (device : Device) (message : List ℕ) where
   pub heard-so : Heard settings device message (respond settings device message)
   unfolding respond byMessage
   heard-so =
-      of-message (λ choose. Heard settings device message (choose Answered (answered device []) (greet device) (refuse device noHandshake) (serve settings device (dataOf message) (requestIn message))))
-      (device .session .state) message silent greeted unshaken (λ asks talks. on-request asks talks _ (served settings device (dataOf message) (requestIn message)))
+      of-message (λ choose. Heard settings device message
+      (choose Answered (answered device []) (greet device) (refuse (settings .start) device noHandshake) (serve settings device (dataOf message) (requestIn (settings .start) message))))
+      (device .session .state) message silent greeted unshaken (λ asks talks. on-request asks talks _ (served settings device (dataOf message) (requestIn (settings .start) message)))
 
   -- what is neither empty nor the handshake is refused while Waiting
-  pub before-hello : NeitherEmptyNorHello message → isWaiting (device .session .state) ≡ true → respond settings device message ≡ refuse device noHandshake
+  pub before-hello : NeitherEmptyNorHello message → isWaiting (device .session .state) ≡ true → respond settings device message ≡ refuse (settings .start) device noHandshake
   unfolding respond
   before-hello asks waits = rw (asks .some, asks .other, waiting-here (device .session .state) waits, waits)
 
   -- and served as a request while Talking
-  pub asked : NeitherEmptyNorHello message → isTalking (device .session .state) ≡ true → respond settings device message ≡ serve settings device (dataOf message) (requestIn message)
+  pub asked : NeitherEmptyNorHello message → isTalking (device .session .state) ≡ true → respond settings device message ≡ serve settings device (dataOf message) (requestIn (settings .start) message)
   unfolding respond
   asked asks talks =
       let here = talking-here (device .session .state) talks in
@@ -167,7 +169,7 @@ module _ (memory : Memory) (address : ℕ) (bytes : List ℕ) where
 module _ (settings : Settings) (device : Device) (message : List ℕ) (room : ℕ) (P : Memory → Type 0) (before : P (device .memory)) where
   -- by the way of the message
   after-way : (answer : Answered) → Heard settings device message answer
-      → (noneFails (requestChecks device (requestIn message)) ≡ true → P (work settings device (dataOf message) (requestIn message) .device .memory))
+      → (noneFails (requestChecks device (requestIn (settings .start) message)) ≡ true → P (work settings device (dataOf message) (requestIn (settings .start) message) .device .memory))
       → P (answer .device .memory)
   unfolding greet refuse replyTo
   after-way answer (silent unheeded) done = before
@@ -178,15 +180,15 @@ module _ (settings : Settings) (device : Device) (message : List ℕ) (room : �
 
   -- by the way of the call
   after-call : (outcome : Telling) → Called settings device message room outcome
-      → (Known device room (dataOf message) (requestIn message) → P (work settings device (dataOf message) (requestIn message) .device .memory))
+      → (Known device room (dataOf message) (requestIn (settings .start) message) → P (work settings device (dataOf message) (requestIn (settings .start) message) .device .memory))
       → P (outcome .device .memory)
   after-call outcome (heard pass) done =
       let sized = lent device room pass in
-      after-way (respond settings device message) (heard-so settings device message) (λ accepts. done (record { sized = sized; shape = shaped-so message; pass = accepts }))
+      after-way (respond settings device message) (heard-so settings device message) (λ accepts. done (record { sized = sized; shape = shaped-so (settings .start) message; pass = accepts }))
   after-call outcome (unheard number found) done = before
 
   -- what held before a message holds after it, where the work that is done keeps it
-  pub memory-after : (Known device room (dataOf message) (requestIn message) → P (work settings device (dataOf message) (requestIn message) .device .memory))
+  pub memory-after : (Known device room (dataOf message) (requestIn (settings .start) message) → P (work settings device (dataOf message) (requestIn (settings .start) message) .device .memory))
       → P (tell settings device message room .device .memory)
   memory-after done = after-call (tell settings device message room) (called settings device message room) done
 
@@ -210,11 +212,11 @@ module _ (settings : Settings) (device : Device) (message : List ℕ) (room : �
 -- ---- a reply that is a frame
 
 -- the number of a frame is its second byte
-pub same-number : (one other : ℕ) (first second : List ℕ) → frame crcStart one first ≡ frame crcStart other second → one ≡ other
+pub same-number : (start one other : ℕ) (first second : List ℕ) → frame start one first ≡ frame start other second → one ≡ other
 unfolding frame covered
-same-number one other first second is = ap (λ (bytes : List ℕ). getD bytes 1 0) is
+same-number start one other first second is = ap (λ (bytes : List ℕ). getD bytes 1 0) is
 
 -- and what begins with another byte than every frame does is none
-pub no-frame : (bytes : List ℕ) (number : ℕ) (payload : List ℕ) → eqb (getD bytes 0 0) headByte ≡ false → bytes ≡ frame crcStart number payload → ⊥
+pub no-frame : (start : ℕ) (bytes : List ℕ) (number : ℕ) (payload : List ℕ) → eqb (getD bytes 0 0) headByte ≡ false → bytes ≡ frame start number payload → ⊥
 unfolding frame covered
-no-frame bytes number payload other is = eqb-false _ _ other (ap (λ (list : List ℕ). getD list 0 0) is)
+no-frame start bytes number payload other is = eqb-false _ _ other (ap (λ (list : List ℕ). getD list 0 0) is)

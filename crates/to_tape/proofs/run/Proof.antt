@@ -6,10 +6,10 @@ use Rattle.to_tape.proofs.run.Statement.{statement}
 use Rattle.to_tape.proofs.run.Tie as tie
 
 abbrev Inv-loop : tie.InvT-loop
-Inv-loop block₀ scratch₀ message₀ paper₀ place₀ turns₀ block scratch message paper place turns = (length block ≡ length block₀) × (length scratch ≡ length scratch₀) × (length message ≡ length message₀) × (length paper ≡ length paper₀)
+Inv-loop start block₀ scratch₀ message₀ paper₀ place₀ turns₀ block scratch message paper place turns = (length block ≡ length block₀) × (length scratch ≡ length scratch₀) × (length message ≡ length message₀) × (length paper ≡ length paper₀)
 
 abbrev μ-loop : tie.MeasureT-loop
-μ-loop block₀ scratch₀ message₀ paper₀ place₀ turns₀ block scratch message paper place turns = turns
+μ-loop start block₀ scratch₀ message₀ paper₀ place₀ turns₀ block scratch message paper place turns = turns
 
 loop-holds : tie.Need-loop-holds Inv-loop μ-loop
 loop-holds c = search needs

@@ -6,10 +6,10 @@ use Rattle.to_text.proofs.run.Statement.{statement}
 use Rattle.to_text.proofs.run.Tie as tie
 
 abbrev Inv-loop : tie.InvT-loop
-Inv-loop block₀ paper₀ held₀ turns₀ block paper held turns = (length block ≡ length block₀) × (length paper ≡ length paper₀)
+Inv-loop start block₀ paper₀ held₀ turns₀ block paper held turns = (length block ≡ length block₀) × (length paper ≡ length paper₀)
 
 abbrev μ-loop : tie.MeasureT-loop
-μ-loop block₀ paper₀ held₀ turns₀ block paper held turns = turns
+μ-loop start block₀ paper₀ held₀ turns₀ block paper held turns = turns
 
 loop-holds : tie.Need-loop-holds Inv-loop μ-loop
 loop-holds c = search needs

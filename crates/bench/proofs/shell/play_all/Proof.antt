@@ -8,7 +8,7 @@ use Rattle.bench.proofs.shell.play_all.Statement.{statement}
 use Rattle.bench.proofs.shell.play_all.Tie as tie
 
 abbrev Inv-loop : tie.InvT-loop
-Inv-loop flash₀ ram₀ nvr₀ block₀ replies₀ bench₀ turns₀ flash ram nvr block replies bench turns =
+Inv-loop settings flash₀ ram₀ nvr₀ block₀ replies₀ bench₀ turns₀ flash ram nvr block replies bench turns =
     (bench .from ≤ bench .held)
     × (bench .held ≤ length block)
     × (length flash ≡ length flash₀)
@@ -18,7 +18,7 @@ Inv-loop flash₀ ram₀ nvr₀ block₀ replies₀ bench₀ turns₀ flash ram 
     × (length replies ≡ length replies₀)
 
 abbrev μ-loop : tie.MeasureT-loop
-μ-loop flash₀ ram₀ nvr₀ block₀ replies₀ bench₀ turns₀ flash ram nvr block replies bench turns = turns
+μ-loop settings flash₀ ram₀ nvr₀ block₀ replies₀ bench₀ turns₀ flash ram nvr block replies bench turns = turns
 
 loop-holds : tie.Need-loop-holds Inv-loop μ-loop
 loop-holds c = (omega arith, omega arith, refl, refl, refl, refl, refl)

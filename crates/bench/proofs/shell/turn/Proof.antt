@@ -18,7 +18,7 @@ module _ (c : tie.After-slice-known9) where
   plays = c .before .before .before .before .before .before .before .before
 
   abbrev start : tie.Start
-  start = plays .before .before .before .before .before .before .before .before .before .before .before .before .before .before
+  start = plays .before .before .before .before .before .before .before .before .before .before .before .before .before
 
   abbrev handed : Played
   handed = plays .play .result
@@ -64,7 +64,6 @@ pub turn-spec : {M : Type 1} → statement M
 turn-spec =
     tie.close
     (tie.spec
-    (search needs)
     (search needs)
     (search needs)
     (search needs)

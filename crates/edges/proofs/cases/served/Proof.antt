@@ -5,7 +5,7 @@ use Rattle.edges.proofs.cases.served.Statement.{statement}
 use Rattle.edges.proofs.cases.served.Tie as tie
 
 same-length : tie.Need-same-length
-same-length c = c .before .before .before .before .before .before .before .before .before .answer .kept .1 .1 .1 .0 ∙ c .before .before .before .before .before .before .before .before .before .before .before .before .before .before .before .before .before .before .before .before .before .begun .kept .1 .1 .0
+same-length c = c .before .before .before .before .before .before .before .before .before .answer .kept .1 .1 .1 .0 ∙ c .before .before .before .before .before .before .before .before .before .before .before .before .before .before .before .before .before .before .before .before .begun .kept .1 .1 .0
 
 pub served-spec : {M : Type 1} → statement M
 served-spec =

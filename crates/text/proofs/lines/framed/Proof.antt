@@ -10,7 +10,7 @@ use lib.Seq.{take-all}
 use Rattle.frame.specs.Frame as frames
 use Rattle.frame.specs.Frame.{writing}
 use Rattle.frame.specs.declared.Written.{Written}
-use Rattle.text.specs.Lines.{Lined, commanding, crcStart, framed, lined}
+use Rattle.text.specs.Lines.{Lined, commanding, framed, lined}
 use Rattle.text.specs.declared.Line.{Line}
 use Rattle.text.specs.declared.Line.the-variants.{NoCommand}
 use Rattle.text.proofs.lines.framed.Statement.{statement}
@@ -19,17 +19,17 @@ use Rattle.text.proofs.lines.framed.Tie as tie
 abbrev sent : frames.Outcome → Lined
 sent outcome = lined (framed (outcome .answer)) (outcome .buffer)
 
-none : (bytes message : List ℕ) → length bytes ≡ 0 → lined NoCommand message ≡ commanding bytes message
+none : (start : ℕ) (bytes message : List ℕ) → length bytes ≡ 0 → lined NoCommand message ≡ commanding start bytes message
 unfolding commanding
-none [] message empty = refl
-none (byte ∷ bytes) message empty = absurd (omega arith)
+none start [] message empty = refl
+none start (byte ∷ bytes) message empty = absurd (omega arith)
 
-some : (bytes message : List ℕ) → (length bytes ≡ 0 → ⊥) → sent (writing crcStart (getD bytes 0 0) (take (length bytes - 1) (drop 1 bytes)) message) ≡ commanding bytes message
+some : (start : ℕ) (bytes message : List ℕ) → (length bytes ≡ 0 → ⊥) → sent (writing start (getD bytes 0 0) (take (length bytes - 1) (drop 1 bytes)) message) ≡ commanding start bytes message
 unfolding commanding
-some [] message full = absurd (full refl)
-some (command ∷ payload) message full =
+some start [] message full = absurd (full refl)
+some start (command ∷ payload) message full =
     let enough : length payload ≤ length (command ∷ payload) - 1 = omega arith in
-    ap (λ (payload : List ℕ). sent (writing crcStart command payload message)) (take-all _ payload enough)
+    ap (λ (payload : List ℕ). sent (writing start command payload message)) (take-all _ payload enough)
 
 module _ (c : tie.After-slice-known2) where
   abbrev at : tie.After-write
@@ -38,14 +38,14 @@ module _ (c : tie.After-slice-known2) where
   abbrev start : tie.Start
   start = at .before .before .before .before .before .before .before
 
-  heard : {answer : Written} {line : Line} → at .write .result ≡ answer → line ≡ framed answer → lined line (at .write .last .1 .1 .1 .0) ≡ commanding (now (start .args .bytes)) (now (start .args .message))
+  heard : {answer : Written} {line : Line} → at .write .result ≡ answer → line ≡ framed answer → lined line (at .write .last .1 .1 .1 .0) ≡ commanding (start .args .start) (now (start .args .bytes)) (now (start .args .message))
   heard is says =
       ap (λ (line : Line). lined line (at .write .last .1 .1 .1 .0)) (says ∙ ap framed (sym is))
       ∙ ap sent (at .write .ensures)
-      ∙ some _ _ (at .before .before .before .before .if1 .left)
+      ∙ some _ _ _ (at .before .before .before .before .if1 .left)
 
 returns : tie.Need-returns
-returns c = none _ _ (c .if1 .taken)
+returns c = none _ _ _ (c .if1 .taken)
 
 shared-slice-read-write : tie.Need-shared-slice-read-write
 shared-slice-read-write c = search needs

@@ -40,15 +40,15 @@ module _ (c : tie.After-bytes-in) where
   command : isCommand line ≡ true
   command = sym (c .before .before .before .is-command .ensures) ∙ not-false _ (c .before .before .if1 .left)
 
-  behind : outcome (bytesIn line 1 scratch .buffer) (framing (bytesIn line 1 scratch .answer) bytes message) ≡ messageIn line scratch message
+  behind : outcome (bytesIn line 1 scratch .buffer) (framing (start .args .start) (bytesIn line 1 scratch .answer) bytes message) ≡ messageIn (start .args .start) line scratch message
   unfolding messageIn
   behind = simp command
 
   -- each answer of the reader of hex has its case
-  heard : {answer : Hex} {came : Lined} → c .bytes-in .result ≡ answer → came ≡ framing answer bytes message → outcome after came ≡ messageIn line scratch message
+  heard : {answer : Hex} {came : Lined} → c .bytes-in .result ≡ answer → came ≡ framing (start .args .start) answer bytes message → outcome after came ≡ messageIn (start .args .start) line scratch message
   heard is says =
-      ap (outcome after) (says ∙ ap (λ (answer : Hex). framing answer bytes message) (sym is))
-      ∙ ap (λ (reads : Read). outcome (reads .buffer) (framing (reads .answer) bytes message)) (c .bytes-in .ensures)
+      ap (outcome after) (says ∙ ap (λ (answer : Hex). framing (start .args .start) answer bytes message) (sym is))
+      ∙ ap (λ (reads : Read). outcome (reads .buffer) (framing (start .args .start) (reads .answer) bytes message)) (c .bytes-in .ensures)
       ∙ behind
 
   -- where there are bytes, they lie over the scratch buffer
@@ -117,7 +117,7 @@ returns-2 c =
     let known = at-framed .before .before .before .before in
     let at = known .before .before .before .before in
     let is = known .count .given .1 in
-    heard at is (at-framed .framed .ensures ∙ ap (λ (bytes : List ℕ). commanding bytes (message at)) (first-bytes at _ is))
+    heard at is (at-framed .framed .ensures ∙ ap (λ (bytes : List ℕ). commanding (start at .args .start) bytes (message at)) (first-bytes at _ is))
 
 same-length-4 : tie.Need-same-length-4
 same-length-4 c = search needs

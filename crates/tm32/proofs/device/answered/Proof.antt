@@ -12,7 +12,6 @@ use types.Run.{OneOf, miss}
 use Rattle.frame.specs.Frame.{frame}
 use Rattle.tm32_asks.specs.Checks.{checksOf, noneFails}
 use Rattle.tm32.specs.Device.{Device, Memory, deviceOf, memoryOf}
-use Rattle.tm32_asks.specs.Request.{crcStart}
 use Rattle.tm32.specs.Promises.{Laid, Lent}
 use Rattle.tm32.specs.Work.{work}
 use Rattle.tm32_asks.specs.declared.Request.{Request}
@@ -44,10 +43,10 @@ module _ (c : tie.After-slice-known) where
 
 -- what is laid for the known request
 laid-as : (settings : Settings) (device : Device) (result : ℕ) {request known : Request} {turn : Turn} {after buffer : List ℕ} {session : Session} (bytes : List ℕ) → request ≡ known
-    → Laid turn after session (frame crcStart result bytes) buffer → bytes ≡ work settings device [] known .payload
-    → Laid turn after session (frame crcStart result (work settings device [] request .payload)) buffer
+    → Laid turn after session (frame (settings .start) result bytes) buffer → bytes ≡ work settings device [] known .payload
+    → Laid turn after session (frame (settings .start) result (work settings device [] request .payload)) buffer
 laid-as settings device result {turn} {after} {buffer} {session} bytes named did same =
-    subst (λ (list : List ℕ). Laid turn after session (frame crcStart result list) buffer) (same ∙ ap (λ (one : Request). work settings device [] one .payload) (sym named)) did
+    subst (λ (list : List ℕ). Laid turn after session (frame (settings .start) result list) buffer) (same ∙ ap (λ (one : Request). work settings device [] one .payload) (sym named)) did
 
 -- ---- Get
 

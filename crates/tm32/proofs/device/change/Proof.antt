@@ -47,15 +47,15 @@ module _ (c : tie.After-slice-known3) where
   passes named = passed-as named (start .pre .1 .1)
 
   shaped : {known : Request} → start .args .request ≡ known → Shaped (dataOf message) known
-  shaped named = shaped-as message named (start .pre .1 .0)
+  shaped named = shaped-as (start .args .settings .start) message named (start .pre .1 .0)
 
 -- what is shown of the known request
-changed-as : (memory : Memory) (payload : List ℕ) {request known : Request} {after : Memory} {result : ℕ} → request ≡ known
-    → ((settings : Settings) (session : Session) → after ≡ work settings (deviceOf session memory) payload known .device .memory)
-    → ((settings : Settings) (session : Session) → result ≡ work settings (deviceOf session memory) payload known .result)
-    → Changed memory payload request after result
-changed-as memory payload {after} {result} named leaves gives =
-    subst (λ (one : Request). Changed memory payload one after result) (sym named) (record { leaves = leaves; gives = gives })
+changed-as : (settings : Settings) (memory : Memory) (payload : List ℕ) {request known : Request} {after : Memory} {result : ℕ} → request ≡ known
+    → ((session : Session) → after ≡ work settings (deviceOf session memory) payload known .device .memory)
+    → ((session : Session) → result ≡ work settings (deviceOf session memory) payload known .result)
+    → Changed settings memory payload request after result
+changed-as settings memory payload {after} {result} named leaves gives =
+    subst (λ (one : Request). Changed settings memory payload one after result) (sym named) (record { leaves = leaves; gives = gives })
 
 -- ---- Write
 
@@ -89,9 +89,9 @@ returns c =
     let at = named .before .before in
     let flag = named .request .given .0 .0 in
     let address = named .request .given .0 .1 .0 in
-    changed-as (memory at) (dataOf (message at)) (named .request .given .1)
-    (λ settings session. write .work .ensures .0 ∙ ap (written (memory at) address) (to-write bytes))
-    (λ settings session. write .work .ensures .1 ∙ ap (λ (list : List ℕ). readback flag address list (written (memory at) address list)) (to-write bytes))
+    changed-as (start at .args .settings) (memory at) (dataOf (message at)) (named .request .given .1)
+    (λ session. write .work .ensures .0 ∙ ap (written (memory at) address) (to-write bytes))
+    (λ session. write .work .ensures .1 ∙ ap (λ (list : List ℕ). readback flag address list (written (memory at) address list)) (to-write bytes))
 
 -- ---- Memory CRC
 
@@ -106,7 +106,7 @@ unfolding work
 returns-2 c =
     let named = c .before .before .before .before .before in
     let at = named .before .before in
-    changed-as (memory at) (dataOf (message at)) (named .request2 .given .1) (λ settings session. refl) (λ settings session. c .work2 .ensures)
+    changed-as (start at .args .settings) (memory at) (dataOf (message at)) (named .request2 .given .1) (λ session. refl) (λ session. c .work2 .ensures)
 
 -- ---- Erase
 
@@ -122,8 +122,8 @@ returns-3 c =
     let erase = c .before .before in
     let named = erase .before .before .before in
     let at = named .before .before in
-    changed-as (memory at) (dataOf (message at)) (named .request3 .given .1)
-    (λ settings session. ap (λ (flash : List ℕ). memoryOf flash (memory at .ram) (memory at .nvr)) (erase .work3 .ensures)) (λ settings session. refl)
+    changed-as (start at .args .settings) (memory at) (dataOf (message at)) (named .request3 .given .1)
+    (λ session. ap (λ (flash : List ℕ). memoryOf flash (memory at .ram) (memory at .nvr)) (erase .work3 .ensures)) (λ session. refl)
 
 -- ---- Write options
 
@@ -140,10 +140,10 @@ returns-4 c =
     let write = c .before .before .before .before in
     let named = write .before .before .before .before in
     let at = named .before .before in
-    changed-as (memory at) (dataOf (message at)) (named .enum-told .given .1)
-    (λ settings session. ap₂ (λ (flash nvr : List ℕ). memoryOf flash (memory at .ram) nvr) (write .work4 .ensures .0) (write .work4 .ensures .1)
+    changed-as (start at .args .settings) (memory at) (dataOf (message at)) (named .enum-told .given .1)
+    (λ session. ap₂ (λ (flash nvr : List ℕ). memoryOf flash (memory at .ram) nvr) (write .work4 .ensures .0) (write .work4 .ensures .1)
     ∙ ap (withOptions (memory at)) (write .before .data-of2 .ensures))
-    (λ settings session. refl)
+    (λ session. refl)
 
 -- ---- the others
 
@@ -151,24 +151,24 @@ returns-4 c =
 abbrev others : List ℕ
 others = 0 ∷ 1 ∷ 2 ∷ 6 ∷ 8 ∷ 9 ∷ 10 ∷ []
 
-unchanged : (memory : Memory) (payload : List ℕ) (request : Request) → LetThrough request → OneOf others (tagOf the-type request) → Changed memory payload request memory workDone
+unchanged : (settings : Settings) (memory : Memory) (payload : List ℕ) (request : Request) → LetThrough request → OneOf others (tagOf the-type request) → Changed settings memory payload request memory workDone
 unfolding work checks noneFails
-unchanged memory payload (Pps code) lets one = record { leaves = λ settings session. refl; gives = λ settings session. refl }
-unchanged memory payload Get lets one = record { leaves = λ settings session. refl; gives = λ settings session. refl }
-unchanged memory payload (Read address count) lets one = record { leaves = λ settings session. refl; gives = λ settings session. refl }
-unchanged memory payload (Write flag address count) lets one = absurd (miss others 3 tt one)
-unchanged memory payload (MemoryCrc address count wanted) lets one = absurd (miss others 4 tt one)
-unchanged memory payload (Erase first count) lets one = absurd (miss others 5 tt one)
-unchanged memory payload (Go address) lets one = record { leaves = λ settings session. refl; gives = λ settings session. refl }
-unchanged memory payload WriteOptions lets one = absurd (miss others 7 tt one)
-unchanged memory payload ReadOptions lets one = record { leaves = λ settings session. refl; gives = λ settings session. refl }
-unchanged memory payload HeartBeat lets one = record { leaves = λ settings session. refl; gives = λ settings session. refl }
-unchanged memory payload Misshapen lets one = absurd (false≢true (lets .passes))
+unchanged settings memory payload (Pps code) lets one = record { leaves = λ session. refl; gives = λ session. refl }
+unchanged settings memory payload Get lets one = record { leaves = λ session. refl; gives = λ session. refl }
+unchanged settings memory payload (Read address count) lets one = record { leaves = λ session. refl; gives = λ session. refl }
+unchanged settings memory payload (Write flag address count) lets one = absurd (miss others 3 tt one)
+unchanged settings memory payload (MemoryCrc address count wanted) lets one = absurd (miss others 4 tt one)
+unchanged settings memory payload (Erase first count) lets one = absurd (miss others 5 tt one)
+unchanged settings memory payload (Go address) lets one = record { leaves = λ session. refl; gives = λ session. refl }
+unchanged settings memory payload WriteOptions lets one = absurd (miss others 7 tt one)
+unchanged settings memory payload ReadOptions lets one = record { leaves = λ session. refl; gives = λ session. refl }
+unchanged settings memory payload HeartBeat lets one = record { leaves = λ session. refl; gives = λ session. refl }
+unchanged settings memory payload Misshapen lets one = absurd (false≢true (lets .passes))
 
 returns-5 : tie.Need-returns-5
 returns-5 c =
     let at = c .before in
-    unchanged (memory at) (dataOf (message at)) (start at .args .request) (start at .pre .1 .1) (c .match .keys5)
+    unchanged (start at .args .settings) (memory at) (dataOf (message at)) (start at .args .request) (start at .pre .1 .1) (c .match .keys5)
 
 -- what the search finds: what calls ask that is asked here too, and that no call changes the length of a slice
 pub change-spec : {M : Type 1} → statement M

@@ -35,12 +35,12 @@ module _ (settings : Settings) (device : Device) (message : List ℕ) where
       unfolding respond
       of-hello is = simp (ne-eqb (length message) 0 some, here, is)
 
-      to-waiting : same message hello ≡ false → isWaiting (device .session .state) ≡ true → refuse device noHandshake ≡ respond settings device message
+      to-waiting : same message hello ≡ false → isWaiting (device .session .state) ≡ true → refuse (settings .start) device noHandshake ≡ respond settings device message
       unfolding respond
       to-waiting other waits = simp (ne-eqb (length message) 0 some, here, other, waits)
 
       to-talking : same message hello ≡ false → isWaiting (device .session .state) ≡ false
-          → serve settings device (dataOf message) (requestIn message) ≡ respond settings device message
+          → serve settings device (dataOf message) (requestIn (settings .start) message) ≡ respond settings device message
       unfolding respond
       to-talking other talks = simp (ne-eqb (length message) 0 some, here, other, talks)
 

@@ -10,7 +10,6 @@ use lib.ListN.{length}
 use Rattle.frame.specs.Frame.{frame}
 use Rattle.tm32.specs.After.{replyRoom}
 use Rattle.tm32.specs.Device.{Device, Memory, deviceOf, memoryOf}
-use Rattle.tm32_asks.specs.Request.{crcStart}
 use Rattle.tm32_asks.specs.Options.{optionBytes}
 use Rattle.tm32.specs.Promises.{Changed, GoesOn, LetThrough}
 use Rattle.tm32.specs.Respond.{Answered, answered, replyTo}
@@ -47,16 +46,16 @@ module _ (settings : Settings) (session : Session) (memory : Memory) (payload : 
   module _ (request : Request) where
     -- The answer, put together from a session, a memory and a result.
     abbrev answer : Session → Memory → ℕ → Answered
-    answer next after result = answered (deviceOf next after) (frame crcStart result (work settings (deviceOf next after) [] request .payload))
+    answer next after result = answered (deviceOf next after) (frame (settings .start) result (work settings (deviceOf next after) [] request .payload))
 
     -- is that of the request, where each of the three is
-    whole : {next : Session} {after : Memory} {result : ℕ} → Changed memory payload request after result → GoesOn session request next → answer next after result ≡ replyTo (done request)
+    whole : {next : Session} {after : Memory} {result : ℕ} → Changed settings memory payload request after result → GoesOn session request next → answer next after result ≡ replyTo (settings .start) (done request)
     unfolding replyTo
     whole {next} {after} {result} did goes =
         ap (λ (one : Session). answer one after result) (goes settings memory payload)
-        ∙ ap (λ (one : Memory). answer (done request .device .session) one result) (did .leaves settings session)
-        ∙ ap (λ (one : ℕ). answer (done request .device .session) (done request .device .memory) one) (did .gives settings session)
-        ∙ ap (λ (bytes : List ℕ). answered (done request .device) (frame crcStart (done request .result) bytes)) (same-data (done request .device .session) request)
+        ∙ ap (λ (one : Memory). answer (done request .device .session) one result) (did .leaves session)
+        ∙ ap (λ (one : ℕ). answer (done request .device .session) (done request .device .memory) one) (did .gives session)
+        ∙ ap (λ (bytes : List ℕ). answered (done request .device) (frame (settings .start) (done request .result) bytes)) (same-data (done request .device .session) request)
 
 module _ (c : tie.After-slice-known4) where
   abbrev start : tie.Start

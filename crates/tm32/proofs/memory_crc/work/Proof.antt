@@ -5,15 +5,14 @@ use mathlib.Core.Path.{_≡_, sym, ap, _∙_}
 use borrow.Author.Needs.{needs}
 use borrow.Author.Tests.{eq-eqb, ne-eqb}
 use Rattle.frame.specs.Crc.{crc}
-use Rattle.tm32_asks.specs.Request.{crcStart}
 use Rattle.tm32.specs.Work.{compared}
 use Rattle.tm32.proofs.Regions.{user-is-read}
 use Rattle.tm32.proofs.memory_crc.work.Statement.{statement}
 use Rattle.tm32.proofs.memory_crc.work.Tie as tie
 
 -- the sum, over bytes that are equal
-of-bytes : {sum : ℕ} (bytes : List ℕ) {others : List ℕ} → sum ≡ crc crcStart bytes → bytes ≡ others → crc crcStart others ≡ sum
-of-bytes bytes worked same = sym (worked ∙ ap (crc crcStart) same)
+of-bytes : (start : ℕ) {sum : ℕ} (bytes : List ℕ) {others : List ℕ} → sum ≡ crc start bytes → bytes ≡ others → crc start others ≡ sum
+of-bytes start bytes worked same = sym (worked ∙ ap (crc start) same)
 
 work-requires : tie.Need-work-requires
 work-requires c κs =
@@ -25,12 +24,12 @@ crc-requires c κs = search needs
 
 returns : tie.Need-returns
 unfolding compared
-returns c = simp (eq-eqb _ _ (of-bytes _ (c .before .crc .ensures) (c .before .before .work .ensures) ∙ c .if1 .taken))
+returns c = simp (eq-eqb _ _ (of-bytes _ _ (c .before .crc .ensures) (c .before .before .work .ensures) ∙ c .if1 .taken))
 
 returns-2 : tie.Need-returns-2
 unfolding compared
 returns-2 c =
-    let sum = of-bytes _ (c .before .crc .ensures) (c .before .before .work .ensures) in
+    let sum = of-bytes _ _ (c .before .crc .ensures) (c .before .before .work .ensures) in
     simp (ne-eqb _ _ (λ same. c .if1 .left (sym sum ∙ same)))
 
 pub work-spec : {M : Type 1} → statement M

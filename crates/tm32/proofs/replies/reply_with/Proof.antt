@@ -10,7 +10,6 @@ use Rattle.frame.specs.Frame.{Outcome, frame, laid, outcome}
 use Rattle.frame.specs.declared.Written.{Written}
 use Rattle.frame.specs.declared.Written.the-variants.{Frame, TooLong, NoRoom}
 use Rattle.frame.proofs.Laws.{length-frame, written}
-use Rattle.tm32_asks.specs.Request.{crcStart}
 use Rattle.tm32.specs.Promises.{Laid}
 use Rattle.tm32.specs.declared.Answer.the-variants.{Reply}
 use Rattle.tm32.proofs.replies.reply_with.Statement.{statement}
@@ -27,7 +26,7 @@ module _ (c : tie.After-write) where
   start = c .before .before .before .before
 
   abbrev reply : List ℕ
-  reply = frame crcStart (start .args .result) (now (start .args .payload))
+  reply = frame (start .args .start) (start .args .result) (now (start .args .payload))
 
   abbrev buffer : List ℕ
   buffer = now (start .args .buffer)

@@ -9,26 +9,29 @@ use lib.ListN.{length}
 use Rattle.frame.specs.Frame.{dataOf, reading}
 use Rattle.frame.specs.declared.Reading.the-variants.{Sound, Spoiled}
 use Rattle.frame.proofs.Laws.{length-data, read-second, short-data}
-use Rattle.tm32_asks.specs.Request.{crcStart, readingResult, requestIn, requestOf}
+use Rattle.tm32_asks.specs.Request.{readingResult, requestIn, requestOf}
 use Rattle.tm32_asks.specs.declared.Request.the-variants.{Misshapen}
 use Rattle.tm32_asks.proofs.requests.request_in.Statement.{statement}
 use Rattle.tm32_asks.proofs.requests.request_in.Tie as tie
+
+abbrev start : tie.After-read → ℕ
+start c = c .before .before .args .start
 
 abbrev message : tie.After-read → List ℕ
 message c = now (c .before .before .args .message)
 
 -- a message that was read as sound
-sound : (c : tie.After-second) → let told = c .second .given .0 in reading crcStart (message (c .before .before)) ≡ Sound (told .0) (told .1 .0)
+sound : (c : tie.After-second) → let told = c .second .given .0 in reading (start (c .before .before)) (message (c .before .before)) ≡ Sound (told .0) (told .1 .0)
 sound c = sym (c .before .before .read .ensures) ∙ c .second .given .1
 
 -- what the message asks for, by what the reader answers
-sound-asks : (bytes : List ℕ) (second size : ℕ) → reading crcStart bytes ≡ Sound second size → requestOf second (dataOf bytes) ≡ requestIn bytes
+sound-asks : (start : ℕ) (bytes : List ℕ) (second size : ℕ) → reading start bytes ≡ Sound second size → requestOf second (dataOf bytes) ≡ requestIn start bytes
 unfolding requestIn readingResult
-sound-asks bytes second size is = rw (is, read-second crcStart bytes second size is)
+sound-asks start bytes second size is = rw (is, read-second start bytes second size is)
 
-spoiled-asks : (bytes : List ℕ) (place : ℕ) → reading crcStart bytes ≡ Spoiled place → Misshapen ≡ requestIn bytes
+spoiled-asks : (start : ℕ) (bytes : List ℕ) (place : ℕ) → reading start bytes ≡ Spoiled place → Misshapen ≡ requestIn start bytes
 unfolding requestIn readingResult
-spoiled-asks bytes place is = rw is
+spoiled-asks start bytes place is = rw is
 
 read-requires : tie.Need-read-requires
 read-requires c κs = search needs
@@ -46,8 +49,8 @@ request-of-requires c κs =
     omega (
       arith,
       ap length (c .data-of .ensures),
-      length-data crcStart (message read) _ _ (sound at),
-      short-data crcStart (message read) _ _ (sound at) (λ i. read .before .shared-slice-known .given i .fits),
+      length-data (start read) (message read) _ _ (sound at),
+      short-data (start read) (message read) _ _ (sound at) (λ i. read .before .shared-slice-known .given i .fits),
     )
 
 enum-told : tie.Need-enum-told
@@ -57,12 +60,12 @@ returns : tie.Need-returns
 returns c =
     let known = c .before in
     let read = known .before .before in
-    c .request-of .ensures ∙ ap (requestOf _) (known .data-of .ensures) ∙ sound-asks (message (read .before .before)) _ _ (sound read)
+    c .request-of .ensures ∙ ap (requestOf _) (known .data-of .ensures) ∙ sound-asks (start (read .before .before)) (message (read .before .before)) _ _ (sound read)
 
 returns-2 : tie.Need-returns-2
 returns-2 c =
     let read = c .before .before in
-    spoiled-asks (message read) _ (sym (read .read .ensures) ∙ c .enum-told .given .1)
+    spoiled-asks (start read) (message read) _ (sym (read .read .ensures) ∙ c .enum-told .given .1)
 
 pub request-in-spec : {M : Type 1} → statement M
 request-in-spec =

@@ -13,13 +13,13 @@ use Rattle.to_tape.proofs.lines.one.Statement.{statement}
 use Rattle.to_tape.proofs.lines.one.Tie as tie
 
 -- the message lies in its buffer
-lies : (c : tie.After-length) → c .length .given .0 .0 ≤ length (c .before .before .before .before .before .before .message-in .last .1 .1 .0)
+lies : (c : tie.After-length) → c .length .given .0 .0 ≤ length (c .before .before .before .before .before .before .message-in .last .1 .1 .1 .0)
 lies c =
     let at = c .before .before .before .before .before .before in
     let args = at .before .before .before .before .before .before .before .args in
     let answers = sym (ap (λ (outcome : Outcome). outcome .line .answer) (at .message-in .ensures)) ∙ c .length .given .1 in
-    let fits = subst (λ (answer : Line). MessageFits answer (now (args .message))) answers (message-fits (now (args .line)) (now (args .scratch)) (now (args .message))) in
-    omega (arith, fits, at .message-in .kept .1 .1 .0)
+    let fits = subst (λ (answer : Line). MessageFits answer (now (args .message))) answers (message-fits (args .start) (now (args .line)) (now (args .scratch)) (now (args .message))) in
+    omega (arith, fits, at .message-in .kept .1 .1 .1 .0)
 
 message-in-requires : tie.Need-message-in-requires
 message-in-requires c κs = search needs

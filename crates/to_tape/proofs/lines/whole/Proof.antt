@@ -7,10 +7,10 @@ use Rattle.to_tape.proofs.lines.whole.Statement.{statement}
 use Rattle.to_tape.proofs.lines.whole.Tie as tie
 
 abbrev Inv-loop : tie.InvT-loop
-Inv-loop text number scratch₀ message₀ paper₀ sheet₀ line₀ used₀ scratch message paper sheet line used = (length scratch ≡ length scratch₀) × (length message ≡ length message₀) × (length paper ≡ length paper₀)
+Inv-loop start text number scratch₀ message₀ paper₀ sheet₀ line₀ used₀ scratch message paper sheet line used = (length scratch ≡ length scratch₀) × (length message ≡ length message₀) × (length paper ≡ length paper₀)
 
 abbrev μ-loop : tie.MeasureT-loop
-μ-loop text number scratch₀ message₀ paper₀ sheet₀ line₀ used₀ scratch message paper sheet line used = length text - used
+μ-loop start text number scratch₀ message₀ paper₀ sheet₀ line₀ used₀ scratch message paper sheet line used = length text - used
 
 empty-requires : tie.Need-empty-requires Inv-loop μ-loop
 empty-requires c κs = search needs

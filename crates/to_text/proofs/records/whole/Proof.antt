@@ -7,10 +7,10 @@ use Rattle.to_text.proofs.records.whole.Statement.{statement}
 use Rattle.to_text.proofs.records.whole.Tie as tie
 
 abbrev Inv-loop : tie.InvT-loop
-Inv-loop tape paper₀ sheet₀ used₀ paper sheet used = length paper ≡ length paper₀
+Inv-loop start tape paper₀ sheet₀ used₀ paper sheet used = length paper ≡ length paper₀
 
 abbrev μ-loop : tie.MeasureT-loop
-μ-loop tape paper₀ sheet₀ used₀ paper sheet used = length tape - used
+μ-loop start tape paper₀ sheet₀ used₀ paper sheet used = length tape - used
 
 empty-requires : tie.Need-empty-requires Inv-loop μ-loop
 empty-requires c κs = search needs

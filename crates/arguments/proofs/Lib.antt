@@ -1,0 +1,2 @@
+-- Command lines worked out, and mistakes that somebody might make.
+mod Examples
