@@ -1,29 +1,36 @@
 // The start value of a CRC, from the command line.
 use crate::Asked;
+use crate::Told;
 use libc::STDERR_FILENO;
 use text::Word;
 ghost use mathlib.Core.Path.{_≡_};
 ghost use Rattle.memory.specs.Stores.{same};
-ghost use Rattle.arguments.specs.CommandLine.{startIn};
+ghost use Rattle.arguments.specs.CommandLine.{Answers, startIn};
 
 // The word that a start value stands behind.
 const NAME: [u8; 7] = [b'-', b'-', b's', b't', b'a', b'r', b't'];
 
 // The start value that this program's command line asks for, and another where it asks for none. What is refused is told on
-// standard error. An argument that is longer than the room for it counts as an empty one, and those are refused.
-pub fn start(otherwise: u16) -> Asked {
-    let mut name = [0; 8];
-    let mut value = [0; 8];
-    let name_length = os::arg(1, &mut name);
-    let value_length = os::arg(2, &mut value);
-    let answer = start_in(
+// standard error. A word that is missing, or longer than the buffer that is lent for it, counts as an empty one.
+pub fn start(otherwise: u16, name: &mut [u8], value: &mut [u8]) -> Told
+    ensures { λ r. ⌜ Answers otherwise r (now (name .exit)) (now (value .exit)) ⌝ }
+{
+    let count = os::arg_count();
+    let name_length = os::arg(1, name);
+    let value_length = os::arg(2, value);
+    let asked = start_in(
         otherwise,
-        os::arg_count(),
+        count,
         &name[..name_length],
         &value[..value_length],
     );
-    complain(answer);
-    answer
+    complain(asked);
+    Told {
+        count,
+        name: name_length,
+        value: value_length,
+        asked,
+    }
 }
 
 // The start value that is asked for by so many arguments, the program's own name among them, of which the second and the third

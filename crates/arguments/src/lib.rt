@@ -13,3 +13,13 @@ pub enum Asked {
     // Refused: something else stands on the command line.
     NoSuch,
 }
+
+// What was found on the command line, and what it asks for.
+pub struct Told {
+    // How many words there are, the program's own name among them.
+    pub count: usize,
+    // How long the second and the third are, whose bytes stand at the start of the two buffers.
+    pub name: usize,
+    pub value: usize,
+    pub asked: Asked,
+}

@@ -8,7 +8,9 @@ use tm32::Settings;
 
 fn main() {
     let fresh = tape::fresh_settings();
-    if let Asked::Start { value } = arguments::start(fresh.start) {
+    let told = arguments::start(fresh.start, &mut [0; 8], &mut [0; 8]);
+    let asked = told.asked;
+    if let Asked::Start { value } = asked {
         play(fresh.starting_from(value));
     }
 }

@@ -1,4 +1,4 @@
--- A number of 16 bits in hex: one to four digits, the highest first, and nothing beside them.
+-- For the value that a CRC starts from (docs/01-AMENDMENTS.md, "The bench tape"): a number of 16 bits in hex, one to four digits, the highest first, and nothing beside them.
 use Prim.Native.Nat.{ℕ, _+_, _*_}
 use mathlib.Core.Bool.{cond}
 use mathlib.Core.List.{List, [], _∷_}

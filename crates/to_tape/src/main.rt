@@ -34,7 +34,9 @@ pub(crate) enum Step {
 
 fn main() {
     let fresh = tape::fresh_settings();
-    if let Asked::Start { value } = arguments::start(fresh.start) {
+    let told = arguments::start(fresh.start, &mut [0; 8], &mut [0; 8]);
+    let asked = told.asked;
+    if let Asked::Start { value } = asked {
         on_blocks(value);
     }
 }

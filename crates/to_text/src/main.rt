@@ -24,7 +24,9 @@ pub(crate) enum Passed {
 
 fn main() {
     let fresh = tape::fresh_settings();
-    if let Asked::Start { value } = arguments::start(fresh.start) {
+    let told = arguments::start(fresh.start, &mut [0; 8], &mut [0; 8]);
+    let asked = told.asked;
+    if let Asked::Start { value } = asked {
         on_block(value);
     }
 }
