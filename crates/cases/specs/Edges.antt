@@ -4,6 +4,7 @@ use mathlib.Core.Path.{_≡_, refl}
 use mathlib.Core.List.{List, [], _∷_}
 use Rattle.frame.specs.Crc.{bitDone, bitsDone, byteDone, crc, polynomial, shifted}
 use Rattle.frame.specs.Frame.{covered, dataOf, frame, laid, reading, word, wordAt}
+use Rattle.memory.specs.Erases.{erasedPages, wipedFrom, wipedPages}
 use Rattle.memory.specs.Pages.{covers, somePage, someFrom, touched}
 use Rattle.memory.specs.Ranges.{within}
 use Rattle.memory.specs.Stores.{kept, masked, part, replaced, same}
@@ -49,5 +50,5 @@ markedP =
 
 -- All of them hold.
 pub marked-P-hold : computed markedP ≡ expected markedP
-unfolding computed expected prepared hex little message halfwords options markedP after tell callChecks lay laid respond greet serve replyTo verdictOn refuse frame covered word crc byteDone bitsDone bitDone shifted polynomial reading wordAt dataOf requestIn readingResult requestOf writeIn exactly longAt checks verdict protections readChecks writeChecks flashPages somePage someFrom covers touched within inReadRegion inUserRegion bytesAt part replaced masked kept same rdpOn inEither optionBytes erased wipes wiped withOptions work written readback programmedResult freshDevice freshFlash freshRam freshNvr freshOptions freshSettings fromOneTo
+unfolding computed expected prepared hex little message halfwords options markedP after tell callChecks lay laid respond greet serve replyTo verdictOn refuse frame covered word crc byteDone bitsDone bitDone shifted polynomial reading wordAt dataOf requestIn readingResult requestOf writeIn exactly longAt checks verdict protections readChecks writeChecks flashPages somePage someFrom covers touched within inReadRegion inUserRegion bytesAt part replaced masked kept same rdpOn inEither optionBytes erased erasedPages wipes wiped wipedPages wipedFrom withOptions work written readback programmedResult freshDevice freshFlash freshRam freshNvr freshOptions freshSettings fromOneTo
 marked-P-hold = refl

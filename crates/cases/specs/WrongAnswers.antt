@@ -10,6 +10,7 @@ use lib.Dec.{eqb}
 use lib.ListN.{drop, getD, length, replicate}
 use Rattle.frame.specs.Crc.{bitDone, bitsDone, byteDone, crc, polynomial, shifted}
 use Rattle.frame.specs.Frame.{covered, dataOf, frame, laid, reading, word, wordAt, writing}
+use Rattle.memory.specs.Erases.{erasedPages, wipedFrom, wipedPages}
 use Rattle.memory.specs.Pages.{covers, pages, someFrom, somePage, touched}
 use Rattle.memory.specs.Ranges.{within}
 use Rattle.memory.specs.Stores.{holds, kept, masked, part, replaced, replacing, same}
@@ -235,18 +236,18 @@ wipe-spares-protected is = true≢false is
 pub free-part-written :
     respond freshSettings (prepared freshSettings (onBench Waiting (fullFlash 0x0F) off) (handshake ∷ askWriteOptions wrp7 ∷ [])) (askWrite 0 0x08001BFF (0x00 ∷ 0x00 ∷ [])) .device
     ≢ onBench Talking (replicate 1024 0x5A ++ 0x0F ∷ replicate 4094 0x5A ++ 0x44 ∷ replicate 2047 0x5A ++ 0x00 ∷ replicate 25599 0x5A ++ 0x3C ∷ []) wrp7
-unfolding prepared hex little message halfwords options after tell callChecks lay respond greet serve replyTo verdictOn refuse frame covered word crc byteDone bitsDone bitDone shifted polynomial reading wordAt dataOf requestIn readingResult requestOf writeIn exactly longAt checks verdict protections writeChecks flashPages somePage someFrom covers touched within inUserRegion part replaced same rdpOn inEither optionBytes wipes wiped withOptions work freshSettings fromOneTo
+unfolding prepared hex little message halfwords options after tell callChecks lay respond greet serve replyTo verdictOn refuse frame covered word crc byteDone bitsDone bitDone shifted polynomial reading wordAt dataOf requestIn readingResult requestOf writeIn exactly longAt checks verdict protections writeChecks flashPages somePage someFrom covers touched within inUserRegion part replaced same rdpOn inEither optionBytes wipes wiped wipedPages wipedFrom withOptions work freshSettings fromOneTo
 free-part-written is = true≢false (ap (λ (device : Device). eqb (getD (device .memory .flash) 7167 0) 0x5A) is)
 
 -- a Read that ends in a page under PCROP: it is answered with data, as from blank flash
 pub protected-page-read-as-blank :
     respond freshSettings (prepared freshSettings freshDevice (handshake ∷ askWriteOptions pcrop5 ∷ [])) (askRead 0x080013FF 2) .reply ≢ hex 8 0x2D900200FFFFA6AD
-unfolding prepared hex little message halfwords options after tell callChecks lay respond greet serve replyTo verdictOn refuse frame covered word crc byteDone bitsDone bitDone shifted polynomial reading wordAt dataOf requestIn readingResult requestOf exactly longAt checks verdict protections readChecks flashPages somePage someFrom covers touched within inReadRegion part replaced same rdpOn inEither optionBytes wipes wiped withOptions work freshDevice freshFlash freshRam freshNvr freshOptions freshSettings fromOneTo
+unfolding prepared hex little message halfwords options after tell callChecks lay respond greet serve replyTo verdictOn refuse frame covered word crc byteDone bitsDone bitDone shifted polynomial reading wordAt dataOf requestIn readingResult requestOf exactly longAt checks verdict protections readChecks flashPages somePage someFrom covers touched within inReadRegion part replaced same rdpOn inEither optionBytes wipes wiped wipedPages wipedFrom withOptions work freshDevice freshFlash freshRam freshNvr freshOptions freshSettings fromOneTo
 protected-page-read-as-blank is = true≢false (ap (same (hex 6 0x2D630000F3CC)) is)
 
 -- options that take read protection away: the page under write protection is not wiped
 pub protected-page-spared :
     respond freshSettings (prepared freshSettings (onBench Waiting (fullFlash 0x0F) off) (handshake ∷ askWriteOptions rdpWrp7 ∷ [])) (askWriteOptions wrp7) .device
     ≢ onBench Talking (replicate 7168 0xFF ++ replicate 1024 0x5A ++ replicate 24576 0xFF) wrp7
-unfolding prepared hex little message halfwords options after tell callChecks lay respond greet serve replyTo verdictOn frame covered word crc byteDone bitsDone bitDone shifted polynomial reading wordAt dataOf requestIn readingResult requestOf exactly checks verdict protections part replaced same rdpOn optionBytes erased wipes wiped withOptions work freshSettings fromOneTo
+unfolding prepared hex little message halfwords options after tell callChecks lay respond greet serve replyTo verdictOn frame covered word crc byteDone bitsDone bitDone shifted polynomial reading wordAt dataOf requestIn readingResult requestOf exactly checks verdict protections part replaced same rdpOn optionBytes erased erasedPages wipes wiped wipedPages wipedFrom withOptions work freshSettings fromOneTo
 protected-page-spared is = true≢false (ap (λ (device : Device). eqb (getD (device .memory .flash) 7168 0) 0xFF) is)

@@ -1,6 +1,6 @@
 -- Document 01, "A message and its reply", "The ten commands" and "Who may touch which page": demand 2. Every reply, and every byte of memory afterwards, is what 01 lays down: that is the contract of
 -- `tm32::Session::answer`, one equation with `after`; `OneOutcome` shows that no two outcomes satisfy it. Here stands what follows from it: a byte that an accepted message does not name stays, and so
--- does a write-protected one, save in the wipe that lifting read protection brings; and which replies there are. What follows besides, and is less telling, stands in `Besides`.
+-- does a write-protected one, save in the wipe that lifting read protection brings; and which replies there are. What follows besides, and is less telling, stands in `Besides` and, of pages, in `OfPages`.
 -- Words to read, below: `Named`, `Replies` and, for `Besides`, `Memories`. Lemmas to skip: `WorkStays`, `WipeBlanks`, `ReplyResults`, `ReplyData`, `WorkLengths`, `WorkBytes` and `OtherBits`.
 pub mod Named
 pub mod Replies
@@ -13,6 +13,7 @@ pub mod WorkLengths
 pub mod WorkBytes
 pub mod OtherBits
 pub mod Besides
+pub mod OfPages
 pub mod OneOutcome
 use Prim.Native.Nat.{ℕ, _≤_}
 use mathlib.Core.Bool.{true, false, _&&_}

@@ -1,5 +1,6 @@
 -- What follows from the definitions: the laws that callers go by, and the lemmas below them.
 pub mod Laws
+pub mod PageLaws
 mod Gathered
 mod Parts
 mod Programming

@@ -10,7 +10,7 @@ use lib.Dec.{ltb, leb}
 use Rattle.memory.specs.Pages.{someFrom, covers}
 
 -- three tests that cannot all pass
-not-all-pass : (one two three : Bool) → (one ≡ true → two ≡ true → three ≡ true → ⊥) → one && (two && three) ≡ false
+pub not-all-pass : (one two three : Bool) → (one ≡ true → two ≡ true → three ≡ true → ⊥) → one && (two && three) ≡ false
 not-all-pass true true true never = absurd (never refl refl refl)
 not-all-pass true true false never = refl
 not-all-pass true false three never = refl

@@ -1,12 +1,14 @@
 -- What stores, erases and wipes leave in memory that has room for them, and how long it is, and how much is read of it.
-use Prim.Native.Nat.{ℕ, zero, suc, _+_, _*_, _≤_}
+use Prim.Native.Nat.{ℕ, _+_, _≤_}
 use mathlib.Core.Bool.{Bool}
 use mathlib.Core.List.{List}
 use mathlib.Core.Path.{_≡_, ap, _∙_}
 use native.Mathlib.Omega.{arith}
-use lib.ListN.{length, length-replicate, length-take, drop, replicate}
+use lib.Dec.{lit<}
+use lib.ListN.{length, length-take, drop}
 use Rattle.memory.specs.Stores.{Change, change, part, replaced, replacing}
-use Rattle.memory.proofs.Laws.{length-part, length-replaced, stored}
+use Rattle.memory.proofs.Laws.{length-part, stored}
+use Rattle.memory.proofs.PageLaws.{erase-length, wipe-length}
 use Rattle.tm32.specs.Device.{Memory, bytesAt}
 use Rattle.tm32_asks.specs.Map.{blank, flashLength, inFlash, inRam, nvrLength, optionsLength, pageCount, pageSize}
 use Rattle.tm32_asks.specs.Options.{optionBytes}
@@ -18,24 +20,16 @@ pub stores : (memory : List ℕ) (place : ℕ) (bytes : List ℕ) → place + le
     → (done : Bool) (after : List ℕ) → change done after ≡ replacing memory place bytes → after ≡ replaced memory place bytes
 stores memory place bytes fits done after told = ap (λ (did : Change). did .memory) (told ∙ stored memory place bytes fits)
 
--- pages that the flash has lie in it
-pub pages-fit : (flash : List ℕ) (first count : ℕ) → length flash ≡ flashLength → first + count ≤ pageCount
-    → first * pageSize + length (replicate (count * pageSize) blank) ≤ length flash
-pages-fit flash first count long known = omega (arith, length-replicate (count * pageSize) blank)
-
 -- an erase keeps the flash's length
 pub erased-length : (flash : List ℕ) (first count : ℕ) → length flash ≡ flashLength → first + count ≤ pageCount → length (erased flash first count) ≡ flashLength
 unfolding erased
-erased-length flash first count long known = length-replaced flash _ _ (pages-fit flash first count long known) ∙ long
+erased-length flash first count long known = erase-length pageSize blank (lit< tt) pageCount flash long first count known ∙ long
 
 -- and so does the wipe
 pub wiped-length : (old new : List ℕ) (page : ℕ) (flash : List ℕ) → length flash ≡ flashLength → page ≤ pageCount
     → length (wiped old new page flash) ≡ flashLength
 unfolding wiped
-wiped-length old new zero flash long known = long
-wiped-length old new (suc page) flash long known =
-    let same = wiped-length old new page flash long (omega arith) in
-    of-both (λ (rest : List ℕ). length rest ≡ flashLength) (wipes old new page) (erased-length _ page 1 same (omega arith)) same
+wiped-length old new page flash long known = wipe-length pageSize blank (lit< tt) (wipes old new) pageCount flash long page known ∙ long
 
 -- an NVR has all its option bytes
 pub options-length : (nvr : List ℕ) → length nvr ≡ nvrLength → length (optionBytes nvr) ≡ optionsLength

@@ -1,10 +1,11 @@
 -- Document 01, "The ten commands" and "Who may touch which page": what an accepted request does.
-use Prim.Native.Nat.{ℕ, zero, suc, _-_, _*_, _^_}
+use Prim.Native.Nat.{ℕ, _-_, _^_}
 use mathlib.Core.Bool.{Bool, cond, not, _&&_}
 use mathlib.Core.List.{List, [], _∷_, _++_}
 use lib.Dec.{eqb}
-use lib.ListN.{length, drop, replicate}
+use lib.ListN.{length, drop}
 use Rattle.frame.specs.Crc.{crc}
+use Rattle.memory.specs.Erases.{erasedPages, wipedPages}
 use Rattle.memory.specs.Stores.{kept, replaced, same}
 use Rattle.memory.specs.declared.Programmed.{Programmed}
 use Rattle.memory.specs.declared.Programmed.the-variants.{AsGiven, Differs, Outside}
@@ -88,7 +89,7 @@ compared start memory address count wanted = cond (eqb (crc start (bytesAt memor
 
 -- Erase: so many pages from the first on become blank.
 unfoldable pub erased : List ℕ → ℕ → ℕ → List ℕ
-erased flash first count = replaced flash (first * pageSize) (replicate (count * pageSize) blank)
+erased flash first count = erasedPages pageSize blank flash first count
 
 -- Whether writing new options over old ones wipes a page: each page, where read protection goes from on to off. Write protection spares none.
 unfoldable pub wipes : List ℕ → List ℕ → ℕ → Bool
@@ -96,10 +97,7 @@ wipes old new page = rdpOn old && not (rdpOn new)
 
 -- The flash once the wipe has gone over its first so many pages.
 unfoldable pub wiped : List ℕ → List ℕ → ℕ → List ℕ → List ℕ
-wiped old new zero flash = flash
-wiped old new (suc page) flash =
-    let rest : List ℕ = wiped old new page flash in
-    cond (wipes old new page) (erased rest page 1) rest
+wiped old new pages flash = wipedPages pageSize blank (wipes old new) pages flash
 
 -- Write options: first the wipe, then the bytes are stored. The next message already meets them.
 unfoldable pub withOptions : Memory → List ℕ → Memory

@@ -1,23 +1,21 @@
 -- Document 01, "Who may touch which page": lemmas for demand 2. Options that take read protection from on to off set all of the flash to 0xFF, pages under write protection too; no other options touch it.
-use Prim.Native.Nat.{ℕ, zero, suc, _+_, _*_}
+use Prim.Native.Nat.{ℕ}
 use mathlib.Core.Bool.{true, false, not, and-eq-true-iff, false≢true}
-use mathlib.Core.List.{List, _++_, append-nil}
-use mathlib.Core.Path.{_≡_, refl, ap, ap₂, _∙_}
-use native.Mathlib.Omega.{arith}
+use mathlib.Core.List.{List}
+use mathlib.Core.Path.{_≡_, refl}
 use borrow.Author.Tests.{eqb-true, not-true}
-use lib.Dec.{ltb}
-use lib.ListN.{drop, drop-of-length-le, length, length-replicate, replicate, replicate-append-replicate}
-use lib.Seq.{drop-append-add, drop-drop, take-at}
+use lib.Dec.{lit<, ltb}
+use lib.ListN.{length, replicate}
 use Rattle.frame.specs.Frame.{reading}
-use Rattle.memory.specs.Stores.{replaced}
 use Rattle.memory.proofs.Laws.{same-equal}
+use Rattle.memory.proofs.PageLaws.{wipe-of-all}
 use Rattle.tm32_asks.specs.Checks.{checks, noneFails, protections}
 use Rattle.tm32.specs.Device.{Device}
 use Rattle.tm32_asks.specs.Map.{blank, flashLength, pageCount, pageSize}
 use Rattle.tm32_asks.specs.Options.{optionBytes, rdpOn}
 use Rattle.tm32_asks.specs.Request.{readingResult, requestIn}
 use Rattle.tm32.specs.Respond.{hello, replyTo, serve}
-use Rattle.tm32.specs.Work.{erased, wiped, wipes, withOptions, work}
+use Rattle.tm32.specs.Work.{wiped, wipes, withOptions, work}
 use Rattle.tm32_asks.specs.declared.Request.{Request}
 use Rattle.tm32_asks.specs.declared.Request.the-variants.{Pps, Get, Read, Write, MemoryCrc, Erase, Go, WriteOptions, ReadOptions, HeartBeat, Misshapen}
 use Rattle.tm32.specs.declared.Settings.{Settings}
@@ -28,30 +26,11 @@ use Rattle.demands.specs.Messages.Ways.{NeitherEmptyNorHello}
 
 -- ---- the flash
 
--- blanks that are put behind blanks make more of them, and what comes behind is as it was
-more-blank : (first count : ℕ) (flash : List ℕ) → replaced (replicate first blank ++ drop first flash) first (replicate count blank) ≡ replicate (first + count) blank ++ drop (first + count) flash
-unfolding replaced
-more-blank first count flash =
-    let blanks = replicate first blank in
-    let front = length-replicate first blank in
-    let whole : first + length (replicate count blank) ≡ length blanks + count = omega (arith, front, length-replicate count blank) in
-    ap₂ _++_
-    (ap (λ (list : List ℕ). list ++ replicate count blank) (take-at blanks (drop first flash) first front) ∙ replicate-append-replicate first count blank)
-    (ap (λ (place : ℕ). drop place (blanks ++ drop first flash)) whole ∙ drop-append-add blanks (drop first flash) count ∙ drop-drop count first flash)
-
 module _ (old new flash : List ℕ) (on : rdpOn old ≡ true) (off : rdpOn new ≡ false) where
-  -- once the wipe has gone over some pages, these are blank, and the others as they were
-  pub wiped-so-far : (pages : ℕ) → wiped old new pages flash ≡ replicate (pages * pageSize) blank ++ drop (pages * pageSize) flash
-  unfolding wiped wipes erased
-  wiped-so-far zero = refl
-  wiped-so-far (suc page) =
-      let further : page * pageSize + 1 * pageSize ≡ suc page * pageSize = omega arith in
-      rw (on, off, wiped-so-far page)
-      (more-blank (page * pageSize) (1 * pageSize) flash ∙ ap (λ (place : ℕ). replicate place blank ++ drop place flash) further)
-
-  -- so in the end all of the flash is blank
+  -- every page is wiped, so in the end all of the flash is blank
   pub wiped-all : length flash ≡ flashLength → wiped old new pageCount flash ≡ replicate flashLength blank
-  wiped-all long = wiped-so-far pageCount ∙ ap (λ (rest : List ℕ). replicate flashLength blank ++ rest) (drop-of-length-le flash {i = flashLength} (omega arith)) ∙ append-nil _
+  unfolding wiped wipes
+  wiped-all long = wipe-of-all pageSize blank (lit< tt) (wipes old new) pageCount flash long (λ page had. rw (on, off))
 
 -- ---- a message
 

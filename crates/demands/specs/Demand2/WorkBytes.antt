@@ -1,5 +1,5 @@
 -- Document 01, "The chip on the bench": lemmas for demand 2. Where memory, message and settings are made of bytes, all work leaves bytes and replies with bytes.
-use Prim.Native.Nat.{ℕ, zero, suc, _+_, _-_, _*_, _/_, _≤_}
+use Prim.Native.Nat.{ℕ, _+_, _-_, _/_, _≤_}
 use mathlib.Core.Bool.{true}
 use mathlib.Core.List.{List, [], _∷_, _++_}
 use mathlib.Core.Path.{_≡_, refl}
@@ -7,11 +7,12 @@ use native.Mathlib.Nat.{le-refl}
 use native.Mathlib.Omega.{arith}
 use borrow.Author.Tests.{ltb-true}
 use lib.Dec.{lit<, ltb}
-use lib.ListN.{drop, length, replicate}
+use lib.ListN.{drop, length}
 use Rattle.frame.specs.Frame.{dataOf, frame, word}
 use Rattle.frame.proofs.Laws.{frame-bytes, joined-bytes, last-bytes, more-bytes, none-bytes, word-bytes}
 use Rattle.memory.specs.Stores.{kept}
-use Rattle.memory.proofs.Laws.{AllBytes, kept-bytes, length-kept, part-bytes, replaced-bytes, replicate-bytes}
+use Rattle.memory.proofs.Laws.{AllBytes, kept-bytes, length-kept, part-bytes, replaced-bytes}
+use Rattle.memory.proofs.PageLaws.{erase-bytes, wipe-bytes}
 use Rattle.tm32.specs.Device.{Device, Memory, bytesAt}
 use Rattle.tm32_asks.specs.Map.{blank, flashLength, flashStart, inFlash, inRam, nvrStart, optionsLength, optionsStart, pageCount, pageSize, ramLength, ramStart}
 use Rattle.tm32_asks.specs.Numbers.{long}
@@ -26,7 +27,6 @@ use Rattle.tm32_asks.specs.declared.Request.the-variants.{Pps, Get, Read, Write
 use Rattle.tm32.specs.declared.Settings.{Settings}
 use Rattle.tm32_asks.proofs.Accepted.{Shaped, erase-accepted, of-both, write-accepted}
 use Rattle.tm32_asks.proofs.Verdicts.{passAll}
-use Rattle.tm32.proofs.Written.{pages-fit, wiped-length}
 use Rattle.demands.specs.Demand1.WorkRefused.{one-of-so}
 use Rattle.demands.specs.Demand2.Memories.{MemoryBytes, SettingsBytes}
 use Rattle.demands.specs.Demand2.Replies.{isResult, results}
@@ -46,18 +46,12 @@ module _ (flash : List ℕ) (first count : ℕ) (sized : length flash ≡ flashL
   -- an erase
   erased-bytes : AllBytes flash → AllBytes (erased flash first count)
   unfolding erased
-  erased-bytes all =
-      let blanks = replicate (count * pageSize) blank in
-      replaced-bytes flash (first * pageSize) blanks (pages-fit flash first count sized inside) all (replicate-bytes (count * pageSize) blank (lit< tt))
+  erased-bytes all = erase-bytes pageSize blank (lit< tt) pageCount flash sized first count inside (lit< tt) all
 
 -- a wipe of some of the pages
 wiped-bytes : (old new : List ℕ) (pages : ℕ) (flash : List ℕ) → length flash ≡ flashLength → pages ≤ pageCount → AllBytes flash → AllBytes (wiped old new pages flash)
 unfolding wiped
-wiped-bytes old new zero flash sized inside all = all
-wiped-bytes old new (suc page) flash sized inside all =
-    let rest = wiped-bytes old new page flash sized (omega arith) all in
-    of-both AllBytes (wipes old new page)
-    (erased-bytes (wiped old new page flash) page 1 (wiped-length old new page flash sized (omega arith)) (omega arith) rest) rest
+wiped-bytes old new pages flash sized inside all = wipe-bytes pageSize blank (lit< tt) (wipes old new) pageCount flash sized (lit< tt) all pages inside
 
 module _ (device : Device) (room : ℕ) (sized : Lent (device .memory) room) (all : MemoryBytes (device .memory)) where
   -- a write

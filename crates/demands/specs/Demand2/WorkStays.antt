@@ -1,19 +1,20 @@
 -- Document 01, "The ten commands" and "Who may touch which page": lemmas for demand 2. The work of each command leaves the bytes that it does not name, and no request that is accepted names a byte of a
 -- write-protected page.
-use Prim.Native.Nat.{ℕ, zero, suc, _+_, _-_, _*_, _≤_, _<_}
+use Prim.Native.Nat.{ℕ, _+_, _-_, _*_, _≤_, _<_}
 use mathlib.Core.Bool.{Bool, true, false, cond, not, _&&_, _||_, and-true, true≢false}
 use mathlib.Core.List.{List}
 use mathlib.Core.Path.{_≡_, refl, sym, ap, _∙_}
 use native.Mathlib.Decide.{decLt}
 use native.Mathlib.Omega.{arith}
 use lib.Dec.{lit<}
-use lib.ListN.{drop, getD, length, length-replicate, replicate}
+use lib.ListN.{drop, getD, length}
 use Rattle.frame.specs.Frame.{dataOf}
 use Rattle.memory.specs.Pages.{pages, somePage, touched}
 use Rattle.memory.specs.Ranges.{within}
 use Rattle.memory.specs.Stores.{kept, part, replaced}
 use Rattle.memory.specs.declared.PageRun.{PageRun}
 use Rattle.memory.proofs.Laws.{in-region, length-kept, part-at, region-holds, replaced-before, replaced-behind, some-page, touched-page}
+use Rattle.memory.proofs.PageLaws.{off-erased, wipe-of-none}
 use Rattle.tm32.specs.After.{tell}
 use Rattle.tm32_asks.specs.Checks.{flashPages, noneFails}
 use Rattle.tm32.specs.Device.{Device, Memory, bytesAt}
@@ -26,7 +27,6 @@ use Rattle.tm32_asks.specs.declared.Request.{Request}
 use Rattle.tm32_asks.specs.declared.Request.the-variants.{Pps, Get, Read, Write, MemoryCrc, Erase, Go, WriteOptions, ReadOptions, HeartBeat, Misshapen}
 use Rattle.tm32.specs.declared.Settings.{Settings}
 use Rattle.tm32_asks.proofs.Accepted.{EraseAccepted, Shaped, WriteAccepted, erase-accepted, write-accepted}
-use Rattle.tm32.proofs.Written.{pages-fit}
 use Rattle.demands.specs.Demand2.Named.{byteAt, named, pageOf, wipesBy, wiping}
 use Rattle.demands.specs.Messages.FirstFailing.{requestChecks}
 use Rattle.demands.specs.Messages.Ways.{Known, Stored, fits, intoFlash, intoNvr, intoRam, memory-after, nvr-fits, stored-so}
@@ -91,8 +91,7 @@ module _ (memory : List ℕ) (start place : ℕ) (bytes : List ℕ) (whole : pla
 -- a wipe that does not take place leaves the flash
 pub not-wiped : (old new : List ℕ) (pages : ℕ) (flash : List ℕ) → (rdpOn old && not (rdpOn new)) ≡ false → wiped old new pages flash ≡ flash
 unfolding wiped wipes
-not-wiped old new zero flash spared = refl
-not-wiped old new (suc page) flash spared = rw spared (not-wiped old new page flash spared)
+not-wiped old new pages flash spared = wipe-of-none pageSize blank (wipes old new) pages flash (λ page before. spared)
 
 module _ (device : Device) (room : ℕ) (sized : Lent (device .memory) room) (address : ℕ) where
   -- a write
@@ -134,10 +133,9 @@ module _ (device : Device) (room : ℕ) (sized : Lent (device .memory) room) (ad
       → getD (erased (device .memory .flash) first count) (address - flashStart) 0 ≡ getD (device .memory .flash) (address - flashStart) 0
   unfolding erased
   erase-stays first count inside outside there =
-      let blanks = replicate (count * pageSize) blank in
-      outside-stays (device .memory .flash) flashStart (first * pageSize) blanks (pages-fit (device .memory .flash) first count (sized .flash) inside)
-      (flashStart + first * pageSize) (count * pageSize) address refl (length-replicate (count * pageSize) blank)
-      (region-holds flashStart flashLength address 1 there .0) outside
+      let here = region-holds flashStart flashLength address 1 there in
+      off-erased pageSize blank (lit< tt) pageCount (device .memory .flash) (sized .flash) first count inside (address - flashStart)
+      (λ from before. true≢false (sym (in-region (flashStart + first * pageSize) (count * pageSize) address 1 (omega arith) (omega arith)) ∙ outside))
 
   -- new options
   options-stay : (payload : List ℕ) → length payload ≡ optionsLength → within optionsStart optionsLength address 1 ≡ false

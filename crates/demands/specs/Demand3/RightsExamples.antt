@@ -10,6 +10,7 @@ use lib.ListN.{List·getD-append, getD, getD-replicate, length, length-append, l
 use lib.Seq.{getD-append-add}
 use Rattle.frame.specs.Crc.{bitDone, bitsDone, byteDone, crc, polynomial, shifted}
 use Rattle.frame.specs.Frame.{covered, dataOf, frame, reading, word, wordAt}
+use Rattle.memory.specs.Erases.{erasedPages}
 use Rattle.memory.specs.Pages.{covers, someFrom, somePage, touched}
 use Rattle.memory.specs.Ranges.{within}
 use Rattle.memory.specs.Stores.{kept, masked, part, replaced, same}
@@ -93,7 +94,7 @@ pub three-compared :
     (replied (hex 6 0x2D630000F3CC) ∷ replied done ∷ [])
     (replied done ∷ [])
     ∷ []
-unfolding comparing lookAndStore eraseAndLook lookAndBeat sentAll run tell callChecks without happens tells isProtectionRefusal isOneOf hex little message halfwords options respond serve replyTo verdictOn refuse frame covered word crc byteDone bitsDone bitDone shifted polynomial reading wordAt dataOf requestIn readingResult requestOf exactly writeIn longAt fromOneTo checks protections readChecks writeChecks flashPages verdict within inReadRegion inUserRegion touched somePage someFrom inEither covers optionBytes part rdpOn work bytesAt written readback programmedResult replaced kept masked same erased freshSettings
+unfolding comparing lookAndStore eraseAndLook lookAndBeat sentAll run tell callChecks without happens tells isProtectionRefusal isOneOf hex little message halfwords options respond serve replyTo verdictOn refuse frame covered word crc byteDone bitsDone bitDone shifted polynomial reading wordAt dataOf requestIn readingResult requestOf exactly writeIn longAt fromOneTo checks protections readChecks writeChecks flashPages verdict within inReadRegion inUserRegion touched somePage someFrom inEither covers optionBytes part rdpOn work bytesAt written readback programmedResult replaced kept masked same erased erasedPages freshSettings
 three-compared = refl
 
 -- None of these messages reads or writes the option bytes, and Read options does.
@@ -104,7 +105,7 @@ pub which-spare-the-options :
     ∷ sparesOptions freshSettings (fullDevice rdp) (sentAll (askReadOptions ∷ []))
     ∷ []
     ≡ true ∷ true ∷ true ∷ false ∷ []
-unfolding noneOf optionEvent optionMessage isTalking touchesOptions readsOptions comparing lookAndStore eraseAndLook lookAndBeat sentAll run tell callChecks without happens tells isProtectionRefusal isOneOf hex little message halfwords options respond serve replyTo verdictOn refuse frame covered word crc byteDone bitsDone bitDone shifted polynomial reading wordAt dataOf requestIn readingResult requestOf exactly writeIn longAt fromOneTo checks protections readChecks writeChecks flashPages verdict within inReadRegion inUserRegion touched somePage someFrom inEither covers optionBytes part rdpOn work bytesAt written readback programmedResult replaced kept masked same erased freshSettings
+unfolding noneOf optionEvent optionMessage isTalking touchesOptions readsOptions comparing lookAndStore eraseAndLook lookAndBeat sentAll run tell callChecks without happens tells isProtectionRefusal isOneOf hex little message halfwords options respond serve replyTo verdictOn refuse frame covered word crc byteDone bitsDone bitDone shifted polynomial reading wordAt dataOf requestIn readingResult requestOf exactly writeIn longAt fromOneTo checks protections readChecks writeChecks flashPages verdict within inReadRegion inUserRegion touched somePage someFrom inEither covers optionBytes part rdpOn work bytesAt written readback programmedResult replaced kept masked same erased erasedPages freshSettings
 which-spare-the-options = refl
 
 -- ---- the pairs are those of which the theorem speaks
@@ -171,7 +172,7 @@ pcrop-protects = record { rdp = λ is. refl; pcrop = λ page is. is; wrp = λ pa
 
 -- Read options tells the option bytes, in which the two devices differ: the conclusion fails.
 pub apart-alters : Agree (run freshSettings (fullDevice rdp) (sentAll (askReadOptions ∷ []))) (run freshSettings (fullDevice off) (permittedBy freshSettings (fullDevice rdp) (sentAll (askReadOptions ∷ [])))) → ⊥
-unfolding others comparing lookAndStore eraseAndLook lookAndBeat sentAll run tell callChecks without happens tells isProtectionRefusal isOneOf hex little message halfwords options respond serve replyTo verdictOn refuse frame covered word crc byteDone bitsDone bitDone shifted polynomial reading wordAt dataOf requestIn readingResult requestOf exactly writeIn longAt fromOneTo checks protections readChecks writeChecks flashPages verdict within inReadRegion inUserRegion touched somePage someFrom inEither covers optionBytes part rdpOn work bytesAt written readback programmedResult replaced kept masked same erased freshSettings
+unfolding others comparing lookAndStore eraseAndLook lookAndBeat sentAll run tell callChecks without happens tells isProtectionRefusal isOneOf hex little message halfwords options respond serve replyTo verdictOn refuse frame covered word crc byteDone bitsDone bitDone shifted polynomial reading wordAt dataOf requestIn readingResult requestOf exactly writeIn longAt fromOneTo checks protections readChecks writeChecks flashPages verdict within inReadRegion inUserRegion touched somePage someFrom inEither covers optionBytes part rdpOn work bytesAt written readback programmedResult replaced kept masked same erased erasedPages freshSettings
 apart-alters agree =
     let rdp-byte : _≡_ {A = ℕ} 0x00 0xAA = ap (λ (told : List Told). getD (firstReply told) 4 0) (agree .told) in
     omega arith

@@ -1,8 +1,10 @@
 -- `tm32::erase::work` meets its contract: the pages lie in the flash, so the fill is done.
 use borrow.Author.Needs.{needs}
 use denote.Ref.{now}
+use lib.Dec.{lit<}
+use Rattle.memory.proofs.PageLaws.{fill-erases}
+use Rattle.tm32_asks.specs.Map.{blank, pageCount, pageSize}
 use Rattle.tm32.specs.Work.{erased}
-use Rattle.tm32.proofs.Written.{pages-fit, stores}
 use Rattle.tm32.proofs.erase.work.Statement.{statement}
 use Rattle.tm32.proofs.erase.work.Tie as tie
 
@@ -29,7 +31,7 @@ unfolding erased
 returns c =
     let fill = c .before .before in
     let start = fill .before .before .before in
-    stores _ _ _ (pages-fit (now (start .args .flash)) _ _ (start .pre .0) (start .pre .1)) _ _ (fill .fill .ensures)
+    fill-erases pageSize blank (lit< tt) pageCount (now (start .args .flash)) (start .pre .0) _ _ (start .pre .1) _ _ (fill .fill .ensures)
 
 pub work-spec : {M : Type 1} → statement M
 work-spec =

@@ -1,15 +1,17 @@
 -- `tm32::write_options::wipe` meets its contract. The loop's invariant: the flash is as it came, with the wipe gone over as many pages as there were turns.
-use Prim.Native.Nat.{ℕ, _+_, _-_, _≤_}
+use Prim.Native.Nat.{ℕ, _+_, _-_, _≤_, _<_}
 use mathlib.Core.Bool.{Bool, cond}
 use mathlib.Core.List.{List}
 use mathlib.Core.Logic.{⊎-elim}
-use mathlib.Core.Path.{_≡_, refl, sym, ap, ap₂, _∙_}
+use mathlib.Core.Path.{_≡_, sym, ap, ap₂, _∙_}
 use native.Mathlib.Numerals.{add-one}
 use native.Mathlib.Omega.{arith}
 use borrow.Author.Needs.{needs}
 use denote.Ref.{now}
+use lib.Dec.{lit<}
 use lib.ListN.{length}
-use Rattle.tm32_asks.specs.Map.{flashLength, pageCount}
+use Rattle.memory.proofs.PageLaws.{wipe-of-none, wipe-turn}
+use Rattle.tm32_asks.specs.Map.{blank, flashLength, pageCount, pageSize}
 use Rattle.tm32.specs.Work.{erased, wiped, wipes}
 use Rattle.tm32.proofs.Written.{wiped-length}
 use Rattle.tm32.proofs.write_options.wipe.Statement.{statement}
@@ -33,12 +35,13 @@ chosen : {test answer : Bool} → test ≡ answer → (one other : List ℕ) →
 chosen told one other = ap (λ (test : Bool). cond test one other) (sym told)
 
 -- a turn that erases the page where the test holds is one more page of the wipe
-turn : (old new flash : List ℕ) (page : ℕ) (test : Bool) (before after : List ℕ) → test ≡ wipes old new page → before ≡ wiped old new page flash
-    → after ≡ cond test (erased before page 1) before → after ≡ wiped old new (page + 1) flash
-unfolding wiped
-turn old new flash page test before after told inv did =
+turn : (old new flash : List ℕ) (page : ℕ) (test : Bool) (before after : List ℕ) → length flash ≡ flashLength → page < pageCount
+    → test ≡ wipes old new page → before ≡ wiped old new page flash → after ≡ cond test (erased before page 1) before → after ≡ wiped old new (page + 1) flash
+unfolding wiped erased
+turn old new flash page test before after sized had told inv did =
     did
     ∙ ap₂ (λ (test : Bool) (rest : List ℕ). cond test (erased rest page 1) rest) told inv
+    ∙ sym (wipe-turn pageSize blank (lit< tt) (wipes old new) pageCount flash sized page had)
     ∙ ap (λ (pages : ℕ). wiped old new pages flash) (sym (add-one page))
 
 -- which is what the code does in a turn
@@ -52,7 +55,7 @@ stepped c =
 
 loop-holds : tie.Need-loop-holds Inv-loop μ-loop
 unfolding wiped
-loop-holds c = (refl, omega arith)
+loop-holds c = (sym (wipe-of-none pageSize blank _ 0 _ (λ page before. absurd (omega arith))), omega arith)
 
 wipes-requires : tie.Need-wipes-requires Inv-loop μ-loop
 wipes-requires c κs = search needs
@@ -69,7 +72,8 @@ loop-less c = search needs
 loop-again : tie.Need-loop-again Inv-loop μ-loop
 loop-again c =
     let wipes = c .before in
-    (turn _ _ _ _ _ _ _ (wipes .wipes .ensures) (wipes .before .before .loop .inv .0) (stepped c), omega arith)
+    let start = wipes .before .before .before .before .before .before in
+    (turn _ _ _ _ _ _ _ (start .pre) (omega arith) (wipes .wipes .ensures) (wipes .before .before .loop .inv .0) (stepped c), omega arith)
 
 same-length : tie.Need-same-length Inv-loop μ-loop
 same-length c = long (c .before) ∙ sym (c .before .before .before .before .before .pre)
