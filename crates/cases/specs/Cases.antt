@@ -60,23 +60,27 @@ expected (one ∷ rest) =
 abbrev pub onBench : State → List ℕ → List ℕ → Device
 onBench state flash options = deviceOf (sessionOf state Uart 0x0A) (memoryOf flash (replicate 9216 0) (replicate 2048 0 ++ options ++ replicate 4074 0))
 
--- A device like that which Talks, with a blank flash, and with some RAM and some NVR.
-abbrev pub blankBeside : List ℕ → List ℕ → Device
-blankBeside ram nvr = deviceOf (sessionOf Talking Uart 0x0A) (memoryOf (replicate 32768 0xFF) ram nvr)
+-- How many bytes the flash has by 01, written out. The definitions work it out from the count of pages.
+abbrev pub flashBytes : ℕ
+flashBytes = 32768
 
 -- A blank flash, as on the fresh device.
 abbrev pub blankFlash : List ℕ
-blankFlash = replicate 32768 0xFF
+blankFlash = replicate flashBytes 0xFF
+
+-- A device like that which Talks, with a blank flash, and with some RAM and some NVR.
+abbrev pub blankBeside : List ℕ → List ℕ → Device
+blankBeside ram nvr = deviceOf (sessionOf Talking Uart 0x0A) (memoryOf blankFlash ram nvr)
 
 -- A flash with a byte at the start of page 1, and blank otherwise.
 abbrev pub oneByte : ℕ → List ℕ
-oneByte byte = replicate 1024 0xFF ++ byte ∷ replicate 31743 0xFF
+oneByte byte = replicate 1024 0xFF ++ byte ∷ replicate (flashBytes - 1025) 0xFF
 
--- The first 31 pages full of 0x5A, with two other bytes: one at the start of page 1, and 0x44 at the end of page 4.
+-- All pages but the last full of 0x5A, with two other bytes: one at the start of page 1, and 0x44 at the end of page 4.
 abbrev pub fullPages : ℕ → List ℕ
-fullPages byte = replicate 1024 0x5A ++ byte ∷ replicate 4094 0x5A ++ 0x44 ∷ replicate 26624 0x5A
+fullPages byte = replicate 1024 0x5A ++ byte ∷ replicate 4094 0x5A ++ 0x44 ∷ replicate (flashBytes - 6144) 0x5A
 
--- A full flash: the same, with page 31 full of 0x5A up to its last byte, which is 0x3C.
+-- A full flash: the same, with the last page full of 0x5A up to its last byte, which is 0x3C.
 abbrev pub fullFlash : ℕ → List ℕ
 fullFlash byte = fullPages byte ++ replicate 1023 0x5A ++ 0x3C ∷ []
 

@@ -1,7 +1,7 @@
 -- Document 01 with docs/01-AMENDMENTS.md, "A message and its reply" and "The ten commands": the value that a CRC starts from is a setting, for frames both ways and for Memory CRC alike. Messages and
 -- replies are written out whole; the CRCs of those that 01 does not print were worked out apart from the definitions under trial (docs/DECISIONS.md says how).
 use mathlib.Core.Path.{_≡_, refl}
-use Prim.Native.Nat.{ℕ}
+use Prim.Native.Nat.{ℕ, _-_}
 use mathlib.Core.List.{List, [], _∷_, _++_}
 use lib.ListN.{replicate}
 use Rattle.frame.specs.Crc.{bitDone, bitsDone, byteDone, crc, polynomial, shifted}
@@ -20,7 +20,7 @@ use Rattle.tm32_asks.specs.Request.{exactly, readingResult, requestIn, requestO
 use Rattle.tm32.specs.Respond.{greet, refuse, replyTo, respond, serve, verdictOn}
 use Rattle.tm32.specs.Work.{compared, programmedResult, readback, work, written}
 use Rattle.tm32.specs.declared.State.the-variants.{Waiting, Talking}
-use Rattle.cases.specs.Cases.{Case, blankDevice, blankFlash, caseWith, computed, expected, fresh, onBench, prepared}
+use Rattle.cases.specs.Cases.{Case, blankDevice, blankFlash, caseWith, computed, expected, flashBytes, fresh, onBench, prepared}
 use Rattle.cases.specs.Wire.{done, halfwords, handshake, heartBeat, hex, little, off, options, shaken}
 
 -- A fresh device but for its start value, 0xFFFF, after some messages.
@@ -29,7 +29,7 @@ fromOnes = caseWith (withStart freshSettings 0xFFFF) freshDevice
 
 -- The characters 123456789 at the start of page 1, in a flash that is blank otherwise.
 abbrev pub nineWritten : Device
-nineWritten = onBench Talking (replicate 1024 0xFF ++ hex 9 0x313233343536373839 ++ replicate 31735 0xFF) off
+nineWritten = onBench Talking (replicate 1024 0xFF ++ hex 9 0x313233343536373839 ++ replicate (flashBytes - 1033) 0xFF) off
 
 -- Heart beat, the write of those characters with readback, and work done, from 0xFFFF.
 abbrev pub onesHeartBeat : List ℕ

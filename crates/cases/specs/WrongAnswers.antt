@@ -1,7 +1,7 @@
 -- Mistakes that somebody might make, and that the definitions rule out: of each function an outcome that its contract does not admit, worked out by the checker. Each is told from the
 -- right one by a question that has another answer. docs/OUTCOMES.md says which functions they belong to; there stand too the mistakes that are tried on the code.
 -- The last part has mistakes of whole cases of `Edges`. Those of the tape stand in `demands`, in `BenchTape.WrongTapes`.
-use Prim.Native.Nat.{ℕ}
+use Prim.Native.Nat.{ℕ, _-_}
 use mathlib.Core.Bool.{true, false, false≢true, true≢false}
 use mathlib.Core.List.{List, [], _∷_, _++_}
 use mathlib.Core.Logic.{_≢_}
@@ -32,7 +32,7 @@ use Rattle.tm32_asks.specs.declared.Request.the-variants.{HeartBeat}
 use Rattle.tm32.specs.declared.Session.{Session}
 use Rattle.tm32.specs.declared.Settings.{Settings}
 use Rattle.tm32.specs.declared.State.the-variants.{Talking, Waiting}
-use Rattle.cases.specs.Cases.{fullDevice, fullFlash, onBench, oneByte, pcrop5, prepared, rdpWrp7, wrp7}
+use Rattle.cases.specs.Cases.{flashBytes, fullDevice, fullFlash, onBench, oneByte, pcrop5, prepared, rdpWrp7, wrp7}
 use Rattle.cases.specs.Wire.{askRead, askWrite, askWriteOptions, done, halfwords, handshake, hex, little, message, off, options}
 
 -- ---- frame
@@ -221,7 +221,7 @@ readback-rolls-back is = true≢false (ap (λ (device : Device). eqb (getD (devi
 -- answer: a request is worked on before its checks are asked, so a refused write is written whole, on the write-protected page too
 pub refused-write-is-written :
     respond freshSettings (fullDevice wrp7) (askWrite 0 0x08001BFF (0x00 ∷ 0x00 ∷ [])) .device .memory .flash
-    ≢ replicate 1024 0x5A ++ 0x0F ∷ replicate 4094 0x5A ++ 0x44 ∷ replicate 2047 0x5A ++ 0x00 ∷ 0x00 ∷ replicate 25598 0x5A ++ 0x3C ∷ []
+    ≢ replicate 1024 0x5A ++ 0x0F ∷ replicate 4094 0x5A ++ 0x44 ∷ replicate 2047 0x5A ++ 0x00 ∷ 0x00 ∷ replicate (flashBytes - 7170) 0x5A ++ 0x3C ∷ []
 unfolding little message halfwords options respond serve verdictOn refuse frame covered word crc byteDone bitsDone bitDone shifted polynomial reading wordAt dataOf requestIn readingResult requestOf writeIn longAt checks verdict protections writeChecks flashPages somePage someFrom covers touched within inUserRegion part same inEither optionBytes freshSettings fromOneTo
 refused-write-is-written is = true≢false (ap (λ (flash : List ℕ). eqb (getD flash 7167 0) 0x5A) is)
 
@@ -235,7 +235,7 @@ wipe-spares-protected is = true≢false is
 -- a write that ends in a write-protected page: the byte before that page is written
 pub free-part-written :
     respond freshSettings (prepared freshSettings (onBench Waiting (fullFlash 0x0F) off) (handshake ∷ askWriteOptions wrp7 ∷ [])) (askWrite 0 0x08001BFF (0x00 ∷ 0x00 ∷ [])) .device
-    ≢ onBench Talking (replicate 1024 0x5A ++ 0x0F ∷ replicate 4094 0x5A ++ 0x44 ∷ replicate 2047 0x5A ++ 0x00 ∷ replicate 25599 0x5A ++ 0x3C ∷ []) wrp7
+    ≢ onBench Talking (replicate 1024 0x5A ++ 0x0F ∷ replicate 4094 0x5A ++ 0x44 ∷ replicate 2047 0x5A ++ 0x00 ∷ replicate (flashBytes - 7169) 0x5A ++ 0x3C ∷ []) wrp7
 unfolding prepared hex little message halfwords options after tell callChecks lay respond greet serve replyTo verdictOn refuse frame covered word crc byteDone bitsDone bitDone shifted polynomial reading wordAt dataOf requestIn readingResult requestOf writeIn exactly longAt checks verdict protections writeChecks flashPages somePage someFrom covers touched within inUserRegion part replaced same rdpOn inEither optionBytes wipes wiped wipedPages wipedFrom withOptions work freshSettings fromOneTo
 free-part-written is = true≢false (ap (λ (device : Device). eqb (getD (device .memory .flash) 7167 0) 0x5A) is)
 
@@ -248,6 +248,6 @@ protected-page-read-as-blank is = true≢false (ap (same (hex 6 0x2D630000F3CC))
 -- options that take read protection away: the page under write protection is not wiped
 pub protected-page-spared :
     respond freshSettings (prepared freshSettings (onBench Waiting (fullFlash 0x0F) off) (handshake ∷ askWriteOptions rdpWrp7 ∷ [])) (askWriteOptions wrp7) .device
-    ≢ onBench Talking (replicate 7168 0xFF ++ replicate 1024 0x5A ++ replicate 24576 0xFF) wrp7
+    ≢ onBench Talking (replicate 7168 0xFF ++ replicate 1024 0x5A ++ replicate (flashBytes - 8192) 0xFF) wrp7
 unfolding prepared hex little message halfwords options after tell callChecks lay respond greet serve replyTo verdictOn frame covered word crc byteDone bitsDone bitDone shifted polynomial reading wordAt dataOf requestIn readingResult requestOf exactly checks verdict protections part replaced same rdpOn optionBytes erased erasedPages wipes wiped wipedPages wipedFrom withOptions work freshSettings fromOneTo
 protected-page-spared is = true≢false (ap (λ (device : Device). eqb (getD (device .memory .flash) 7168 0) 0xFF) is)

@@ -10,6 +10,16 @@ use tm32::REPLY_ROOM;
 use tm32::Session;
 use tm32::Turn;
 
+// How many bytes there are of flash, RAM, NVR and reply buffer: each one more than the device asks for, so that too much can be lent,
+// too.
+pub(crate) const FLASH_ROOM: usize = FLASH_LENGTH as usize + 1;
+
+pub(crate) const RAM_ROOM: usize = RAM_LENGTH as usize + 1;
+
+pub(crate) const NVR_ROOM: usize = NVR_LENGTH as usize + 1;
+
+pub(crate) const BUFFER_ROOM: usize = REPLY_ROOM + 1;
+
 pub(crate) struct Bench {
     pub session: Session,
     // What a CRC starts from.

@@ -1,5 +1,9 @@
 // The cases, line by line, on the device.
+use crate::bench::BUFFER_ROOM;
 use crate::bench::Bench;
+use crate::bench::FLASH_ROOM;
+use crate::bench::NVR_ROOM;
+use crate::bench::RAM_ROOM;
 use crate::lines;
 use crate::lines::Line;
 use crate::report;
@@ -14,10 +18,10 @@ const UNTOUCHED: u8 = 0xEE;
 // All lines of a text.
 pub(crate) fn run(
     text: &[u8],
-    flash: &mut [u8; 32769],
-    ram: &mut [u8; 9217],
-    nvr: &mut [u8; 6145],
-    buffer: &mut [u8; 1031],
+    flash: &mut [u8; FLASH_ROOM],
+    ram: &mut [u8; RAM_ROOM],
+    nvr: &mut [u8; NVR_ROOM],
+    buffer: &mut [u8; BUFFER_ROOM],
 ) {
     let mut bench = Bench::new(false);
     let mut at = 0;
@@ -34,10 +38,10 @@ pub(crate) fn run(
 fn obeyed(
     bench: Bench,
     text: &[u8],
-    flash: &mut [u8; 32769],
-    ram: &mut [u8; 9217],
-    nvr: &mut [u8; 6145],
-    buffer: &mut [u8; 1031],
+    flash: &mut [u8; FLASH_ROOM],
+    ram: &mut [u8; RAM_ROOM],
+    nvr: &mut [u8; NVR_ROOM],
+    buffer: &mut [u8; BUFFER_ROOM],
 ) -> Bench {
     let mut room = io::buffer();
     let line = lines::line_in(bench.start, text, &mut room);
@@ -51,10 +55,10 @@ fn step(
     bench: Bench,
     line: Line,
     message: &[u8],
-    flash: &mut [u8; 32769],
-    ram: &mut [u8; 9217],
-    nvr: &mut [u8; 6145],
-    buffer: &mut [u8; 1031],
+    flash: &mut [u8; FLASH_ROOM],
+    ram: &mut [u8; RAM_ROOM],
+    nvr: &mut [u8; NVR_ROOM],
+    buffer: &mut [u8; BUFFER_ROOM],
 ) -> Bench {
     if line.sends() {
         let room = buffer.len();

@@ -8,9 +8,16 @@ mod lines;
 mod report;
 mod show;
 
+use bench::BUFFER_ROOM;
+use bench::FLASH_ROOM;
+use bench::NVR_ROOM;
+use bench::RAM_ROOM;
 use input::Input;
 ghost use mathlib.Core.Path.{_≡_};
+ghost use Prim.Native.Nat.{_+_};
 ghost use lib.ListN.{length};
+ghost use Rattle.tm32.specs.After.{replyRoom};
+ghost use Rattle.tm32_asks.specs.Map.{flashLength, nvrLength, ramLength};
 
 fn main() {
     let mut block = io::large_buffer();
@@ -25,28 +32,27 @@ fn on_memory(text: &[u8]) {
     cases::run(text, &mut flash(), &mut ram(), &mut nvr(), &mut buffer());
 }
 
-// What is lent to the device: each a little longer than it should be, so that more can be lent, too. Whoever calls these knows the
-// length and nothing of the bytes, which keeps the proofs short.
-fn flash() -> [u8; 32769]
-    ensures { λ r. ⌜ 32769 ≡ length r ⌝ }
+// What is lent to the device. Whoever calls these knows the length and nothing of the bytes, which keeps the proofs short.
+fn flash() -> [u8; FLASH_ROOM]
+    ensures { λ r. ⌜ flashLength + 1 ≡ length r ⌝ }
 {
-    [0; 32769]
+    [0; FLASH_ROOM]
 }
 
-fn ram() -> [u8; 9217]
-    ensures { λ r. ⌜ 9217 ≡ length r ⌝ }
+fn ram() -> [u8; RAM_ROOM]
+    ensures { λ r. ⌜ ramLength + 1 ≡ length r ⌝ }
 {
-    [0; 9217]
+    [0; RAM_ROOM]
 }
 
-fn nvr() -> [u8; 6145]
-    ensures { λ r. ⌜ 6145 ≡ length r ⌝ }
+fn nvr() -> [u8; NVR_ROOM]
+    ensures { λ r. ⌜ nvrLength + 1 ≡ length r ⌝ }
 {
-    [0; 6145]
+    [0; NVR_ROOM]
 }
 
-fn buffer() -> [u8; 1031]
-    ensures { λ r. ⌜ 1031 ≡ length r ⌝ }
+fn buffer() -> [u8; BUFFER_ROOM]
+    ensures { λ r. ⌜ replyRoom + 1 ≡ length r ⌝ }
 {
-    [0; 1031]
+    [0; BUFFER_ROOM]
 }

@@ -10,7 +10,7 @@ pub const PAGE_COUNT: u32 = 32;
 // The user flash.
 pub const FLASH_START: u32 = 0x08000000;
 
-pub const FLASH_LENGTH: u32 = 32768;
+pub const FLASH_LENGTH: u32 = PAGE_COUNT * PAGE_SIZE;
 
 // The user RAM.
 pub const RAM_START: u32 = 0x20001C00;

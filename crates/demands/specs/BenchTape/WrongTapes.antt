@@ -21,6 +21,7 @@ use Rattle.tape.specs.Script.{headed, nextOf, scriptFrom}
 use Rattle.tape.specs.Starting.{starting}
 use Rattle.tape.specs.declared.Found.{Found}
 use Rattle.tape.specs.declared.Found.the-variants.{Nothing, HeadCut, BodyCut, Whole}
+use Rattle.cases.specs.Cases.{blankFlash, flashBytes}
 use Rattle.cases.specs.Wire.{hex}
 
 -- play: a record at the clean end of the input
@@ -29,7 +30,7 @@ unfolding played playTape scriptFrom play closing
 play-writes-an-end is = true≢false (ap (eqb 0) is)
 
 -- fresh: the flash is made blank before the length of the RAM is asked for
-pub fresh-begins-and-refuses : starting (memoryOf (replicate 32768 0x00) [] []) .memory .flash ≢ replicate 32768 0xFF
+pub fresh-begins-and-refuses : starting (memoryOf (replicate flashBytes 0x00) [] []) .memory .flash ≢ blankFlash
 unfolding starting callChecks verdict
 fresh-begins-and-refuses is = true≢false (ap (λ (flash : List ℕ). eqb (getD flash 0 0) 0x00) is)
 
