@@ -33,14 +33,14 @@ otherCommands =
     ∷ fresh [] (askPps 0x11) (hex 6 0x2DF000009AED) (blankDevice off)
     ∷ fresh [] (askPps 0x00) (hex 6 0x2DF000009AED) (blankDevice off)
     ∷ case (withSession freshDevice (start Spi)) (handshake ∷ []) (askPps 0x11) (hex 6 0x2DF500006A06) (withSession (blankDevice off) (sessionOf Talking Spi 0x0A))
-    ∷ filled [] (askMemoryCrc 0x08007FFE 2 0x16AB) done (fullDevice off)
-    ∷ filled [] (askMemoryCrc 0x08007FFE 2 0x16AC) (hex 6 0x2DF400005A31) (fullDevice off)
+    ∷ filled [] (askMemoryCrc 0x0800BFFE 2 0x16AB) done (fullDevice off)
+    ∷ filled [] (askMemoryCrc 0x0800BFFE 2 0x16AC) (hex 6 0x2DF400005A31) (fullDevice off)
     ∷ fresh [] (askWrite 1 0x20003FFF (0xA5 ∷ [])) done (blankBeside (replicate 9215 0 ++ 0xA5 ∷ []) (replicate 2048 0 ++ off ++ replicate 4074 0))
     ∷ fresh [] (askWrite 1 0x1FFF1000 (0xA5 ∷ [])) done (blankBeside (replicate 9216 0) (replicate 2048 0 ++ off ++ replicate 2026 0 ++ 0xA5 ∷ replicate 2047 0))
     ∷ fresh [] (askWrite 1 0x1FFF0FFF (0xA5 ∷ [])) (hex 6 0x2DF10000AADA) (blankDevice off)
-    ∷ fresh [] (askGo 0x08007FF8) done (onBench (Gone 0x08007FF8) blankFlash off)
-    ∷ fresh [] (askGo 0x08007FF9) (hex 6 0x2DF10000AADA) (blankDevice off)
-    ∷ fresh (askGo 0x08007FF8 ∷ []) heartBeat [] (onBench (Gone 0x08007FF8) blankFlash off)
+    ∷ fresh [] (askGo 0x0800BFF8) done (onBench (Gone 0x0800BFF8) blankFlash off)
+    ∷ fresh [] (askGo 0x0800BFF9) (hex 6 0x2DF10000AADA) (blankDevice off)
+    ∷ fresh (askGo 0x0800BFF8 ∷ []) heartBeat [] (onBench (Gone 0x0800BFF8) blankFlash off)
     ∷ []
 
 -- Both sides of more bounds of 01.
@@ -59,11 +59,11 @@ moreBounds =
     ∷ fresh [] (askWrite 0 0x08000400 []) (hex 6 0x2DF20000FA83) (blankDevice off)
     ∷ fresh [] (askMemoryCrc 0x20001C00 0 0x0000) (hex 6 0x2DF20000FA83) (blankDevice off)
     ∷ fresh [] (askMemoryCrc 0x20001C00 1025 0x0000) done (blankDevice off)
-    -- Page count: 0, 32 and 33, and 33 from the last page on.
+    -- Page count: 0, 48 and 49, and 49 from the last page on.
     ∷ filled [] (askErase 0 0) (hex 6 0x2DF30000CAB4) (fullDevice off)
-    ∷ filled [] (askErase 0 32) done (blankDevice off)
-    ∷ filled [] (askErase 0 33) (hex 6 0x2DF30000CAB4) (fullDevice off)
-    ∷ filled [] (askErase 31 33) (hex 6 0x2DF30000CAB4) (fullDevice off)
+    ∷ filled [] (askErase 0 48) done (blankDevice off)
+    ∷ filled [] (askErase 0 49) (hex 6 0x2DF30000CAB4) (fullDevice off)
+    ∷ filled [] (askErase 47 49) (hex 6 0x2DF30000CAB4) (fullDevice off)
     -- Address: the last place to jump to in RAM, and one byte further.
     ∷ fresh [] (askGo 0x20003FF8) done (onBench (Gone 0x20003FF8) blankFlash off)
     ∷ fresh [] (askGo 0x20003FF9) (hex 6 0x2DF10000AADA) (blankDevice off)
@@ -75,11 +75,22 @@ moreBounds =
     ∷ filled (askWriteOptions wrp7 ∷ []) (askErase 7 1) (hex 6 0x2D61000093A2) (fullDevice wrp7)
     ∷ []
 
+-- Where a flash of 32 pages would end: its next address is a good one, and page 32 can be read, erased and protected. Neither 33 pages nor a range up to page 47 is too much.
+unfoldable pub beyond32Pages : List Case
+beyond32Pages =
+    filled [] (askRead 0x08008000 1) (hex 7 0x2D9001005ADE23) (fullDevice off)
+    ∷ filled [] (askRead 0x08007FFF 2) (hex 8 0x2D9002005A5A62AA) (fullDevice off)
+    ∷ filled [] (askErase 0 33) done (onBench Talking (replicate 33792 0xFF ++ replicate 15359 0x5A ++ 0x3C ∷ []) off)
+    ∷ filled [] (askErase 31 33) (hex 6 0x2DF10000AADA) (fullDevice off)
+    ∷ filled (askWriteOptions (options 0xAA (first 32) (first 47)) ∷ []) (askRead 0x08007FFF 2) (hex 6 0x2D630000F3CC) (fullDevice (options 0xAA (first 32) (first 47)))
+    ∷ filled (askWriteOptions (options 0xAA (first 32) (first 47)) ∷ []) (askErase 46 2) (hex 6 0x2D61000093A2) (fullDevice (options 0xAA (first 32) (first 47)))
+    ∷ []
+
 -- All of them, as one list.
 unfoldable pub boundCases : List Case
-boundCases = otherCommands ++ moreBounds
+boundCases = otherCommands ++ moreBounds ++ beyond32Pages
 
 -- All of them hold.
 pub bounds-hold : computed boundCases ≡ expected boundCases
-unfolding computed expected prepared hex little message halfwords options boundCases otherCommands moreBounds after tell callChecks lay laid respond greet serve replyTo verdictOn refuse frame covered word crc byteDone bitsDone bitDone shifted polynomial reading wordAt dataOf requestIn readingResult requestOf writeIn exactly longAt checks verdict protections readChecks writeChecks flashPages somePage someFrom covers touched within inReadRegion inUserRegion bytesAt part replaced masked kept same rdpOn inEither optionBytes erased erasedPages wipes wiped wipedPages wipedFrom withOptions work written readback programmedResult compared information long commandWord toldCommands freshDevice freshFlash freshRam freshNvr freshOptions freshSettings fromOneTo
+unfolding computed expected prepared hex little message halfwords options boundCases otherCommands moreBounds beyond32Pages after tell callChecks lay laid respond greet serve replyTo verdictOn refuse frame covered word crc byteDone bitsDone bitDone shifted polynomial reading wordAt dataOf requestIn readingResult requestOf writeIn exactly longAt checks verdict protections readChecks writeChecks flashPages somePage someFrom covers touched within inReadRegion inUserRegion bytesAt part replaced masked kept same rdpOn inEither optionBytes erased erasedPages wipes wiped wipedPages wipedFrom withOptions work written readback programmedResult compared information long commandWord toldCommands freshDevice freshFlash freshRam freshNvr freshOptions freshSettings fromOneTo
 bounds-hold = refl

@@ -62,7 +62,7 @@ onBench state flash options = deviceOf (sessionOf state Uart 0x0A) (memoryOf fla
 
 -- How many bytes the flash has by 01, written out. The definitions work it out from the count of pages.
 abbrev pub flashBytes : ℕ
-flashBytes = 32768
+flashBytes = 49152
 
 -- A blank flash, as on the fresh device.
 abbrev pub blankFlash : List ℕ

@@ -29,16 +29,16 @@ markedP =
     case freshDevice [] heartBeat (hex 6 0x2D8000009235) (onBench Waiting blankFlash off)
     ∷ fresh [] heartBeat done (blankDevice off)
     -- Read of the last byte of the flash, and one more; of 1,025 bytes, and of none.
-    ∷ fresh [] (askRead 0x08007FFF 1) (hex 7 0x2D900100FF91C6) (blankDevice off)
-    ∷ fresh [] (askRead 0x08007FFF 2) (hex 6 0x2DF10000AADA) (blankDevice off)
+    ∷ fresh [] (askRead 0x0800BFFF 1) (hex 7 0x2D900100FF91C6) (blankDevice off)
+    ∷ fresh [] (askRead 0x0800BFFF 2) (hex 6 0x2DF10000AADA) (blankDevice off)
     ∷ fresh [] (askRead 0x08000000 1025) (hex 6 0x2DF20000FA83) (blankDevice off)
     ∷ fresh [] (askRead 0x08000000 0) (hex 6 0x2DF20000FA83) (blankDevice off)
     -- PCROP 5 to 5: Read of the last byte before page 5, and one more.
     ∷ fresh (askWriteOptions pcrop5 ∷ []) (askRead 0x080013FF 1) (hex 7 0x2D900100FF91C6) (blankDevice pcrop5)
     ∷ fresh (askWriteOptions pcrop5 ∷ []) (askRead 0x080013FF 2) (hex 6 0x2D630000F3CC) (blankDevice pcrop5)
-    -- Erase of page 31, and of one page more.
-    ∷ fresh [] (askErase 31 1) done (blankDevice off)
-    ∷ fresh [] (askErase 31 2) (hex 6 0x2DF10000AADA) (blankDevice off)
+    -- Erase of page 47, and of one page more.
+    ∷ fresh [] (askErase 47 1) done (blankDevice off)
+    ∷ fresh [] (askErase 47 2) (hex 6 0x2DF10000AADA) (blankDevice off)
     -- 0x3C written over 0x0F, with flag 1 and with flag 0.
     ∷ fresh (put 0x0F ∷ []) (askWrite 1 0x08000400 (0x3C ∷ [])) (hex 6 0x2D9200009118) (onBench Talking (oneByte 0x0C) off)
     ∷ fresh (put 0x0F ∷ []) (put 0x3C) done (onBench Talking (oneByte 0x0C) off)

@@ -4,7 +4,7 @@ use Prim.Native.Nat.{ℕ, zero, suc, _+_, _-_}
 use mathlib.Core.Bool.{Bool, true, false, cond}
 use mathlib.Core.List.{List, [], _∷_, _++_, map}
 use mathlib.Core.Path.{_≡_, refl}
-use lib.ListN.{replicate}
+use lib.ListN.{length, replicate}
 use Rattle.frame.specs.Crc.{bitDone, bitsDone, byteDone, crc, polynomial, shifted}
 use Rattle.frame.specs.Frame.{covered, dataOf, frame, laid, reading, word, wordAt}
 use Rattle.memory.specs.Pages.{covers}
@@ -33,23 +33,32 @@ passing test zero = []
 passing test (suc page) = passing test page ++ cond (test page) (page ∷ []) []
 
 -- Both ends of a range are in, pages past the last are not, and a start above the end protects nothing.
-pub range-30-to-200 : passing (covers pageCount 30 200) 256 ≡ 30 ∷ 31 ∷ []
+pub range-46-to-200 : passing (covers pageCount 46 200) 256 ≡ 46 ∷ 47 ∷ []
 unfolding passing covers
-range-30-to-200 = refl
+range-46-to-200 = refl
+
+-- So it is with 2 pages; and with 256, the most that have numbers of one byte, all of them can be protected.
+pub range-of-2-pages : passing (covers 2 1 200) 256 ≡ 1 ∷ []
+unfolding passing covers
+range-of-2-pages = refl
+
+pub range-of-256-pages : length (passing (covers 256 0 255) 300) ∷ passing (covers 256 254 255) 300 ≡ 256 ∷ 254 ∷ 255 ∷ []
+unfolding passing covers
+range-of-256-pages = refl
 
 pub range-6-to-5 : passing (covers pageCount 6 5) 256 ≡ []
 unfolding passing covers
 range-6-to-5 = refl
 
--- Option bytes with every bit set that means nothing: RDP 0xAA, PCROP 5 to 5 and 30 to 200, WRP 0 to 1 and 7 to 6.
+-- Option bytes with every bit set that means nothing: RDP 0xAA, PCROP 5 to 5 and 46 to 200, WRP 0 to 1 and 7 to 6.
 unfoldable pub crowded : List ℕ
 crowded =
     0xAA ∷ 0xFF ∷ 0xFF ∷ 0xFF
-    ∷ 5 ∷ 0xFF ∷ 5 ∷ 0xFF ∷ 30 ∷ 0xFF ∷ 200 ∷ 0xFF
+    ∷ 5 ∷ 0xFF ∷ 5 ∷ 0xFF ∷ 46 ∷ 0xFF ∷ 200 ∷ 0xFF
     ∷ 0 ∷ 0xFF ∷ 1 ∷ 0xFF ∷ 7 ∷ 0xFF ∷ 6 ∷ 0xFF
     ∷ 0xFF ∷ 0xFF ∷ []
 
-pub pages-under-pcrop : passing (underPcrop crowded) 256 ≡ 5 ∷ 30 ∷ 31 ∷ []
+pub pages-under-pcrop : passing (underPcrop crowded) 256 ≡ 5 ∷ 46 ∷ 47 ∷ []
 unfolding passing crowded inEither covers
 pages-under-pcrop = refl
 
@@ -70,7 +79,7 @@ rates-at-the-ends = refl
 -- The last address of each part of the memory.
 pub last-addresses :
     (flashStart + flashLength - 1) ∷ (ramStart + ramLength - 1) ∷ (nvrStart + nvrLength - 1) ∷ (userNvrStart + userNvrLength - 1) ∷ []
-    ≡ 0x08007FFF ∷ 0x20003FFF ∷ 0x1FFF17FF ∷ 0x1FFF17FF ∷ []
+    ≡ 0x0800BFFF ∷ 0x20003FFF ∷ 0x1FFF17FF ∷ 0x1FFF17FF ∷ []
 last-addresses = refl
 
 -- What Get tells where all settings differ: version 01 02, serial 11 to 1C, package 21, model 22, links 0x34333231. Of the start value, 0x5678, it tells nothing.
@@ -103,6 +112,13 @@ pub refusals-in-order :
     ≡ 1 ∷ 2 ∷ 3 ∷ 4 ∷ 5 ∷ 0 ∷ []
 unfolding lent verdict callChecks freshFlash freshRam freshNvr freshOptions replaced word fromOneTo
 refusals-in-order = refl
+
+-- A flash of 32 pages is too short, and so is one that lacks a byte; one byte more is too long.
+pub flash-lengths :
+    map (λ (bytes : ℕ). verdict 0 (callChecks (lent (replicate bytes 0xFF) freshRam freshNvr 0x0A) 1030)) (32768 ∷ 49151 ∷ 49152 ∷ 49153 ∷ [])
+    ≡ 1 ∷ 1 ∷ 0 ∷ 1 ∷ []
+unfolding lent verdict callChecks freshRam freshNvr freshOptions replaced word fromOneTo
+flash-lengths = refl
 
 -- What reads or writes the option bytes of a device that Talks: 0x31, 0x32, and a Read that touches them. A Read beside them does not, nor one that is too long to be served.
 pub touching-the-options :

@@ -26,12 +26,12 @@ use Rattle.cases.specs.Wire.{askErase, askRead, askWrite, askWriteOption
 -- The marked cases over a full flash. All pages but the named ones stay, and the wipe takes the write-protected one too.
 unfoldable pub overFullFlash : List Case
 overFullFlash =
-    filled [] (askRead 0x08007FFF 1) (hex 7 0x2D9001003CBE2F) (fullDevice off)
-    ∷ filled [] (askRead 0x08007FFF 2) (hex 6 0x2DF10000AADA) (fullDevice off)
+    filled [] (askRead 0x0800BFFF 1) (hex 7 0x2D9001003CBE2F) (fullDevice off)
+    ∷ filled [] (askRead 0x0800BFFF 2) (hex 6 0x2DF10000AADA) (fullDevice off)
     ∷ filled (askWriteOptions pcrop5wrp7 ∷ []) (askRead 0x080013FF 1) (hex 7 0x2D9001004421D0) (fullDevice pcrop5wrp7)
     ∷ filled (askWriteOptions pcrop5wrp7 ∷ []) (askRead 0x080013FF 2) (hex 6 0x2D630000F3CC) (fullDevice pcrop5wrp7)
-    ∷ filled (askWriteOptions wrp7 ∷ []) (askErase 31 1) done (onBench Talking (fullPages 0x0F ++ replicate 1024 0xFF) wrp7)
-    ∷ filled (askWriteOptions wrp7 ∷ []) (askErase 31 2) (hex 6 0x2DF10000AADA) (fullDevice wrp7)
+    ∷ filled (askWriteOptions wrp7 ∷ []) (askErase 47 1) done (onBench Talking (fullPages 0x0F ++ replicate 1024 0xFF) wrp7)
+    ∷ filled (askWriteOptions wrp7 ∷ []) (askErase 47 2) (hex 6 0x2DF10000AADA) (fullDevice wrp7)
     ∷ filled (askWriteOptions wrp7 ∷ []) (askWrite 1 0x08000400 (0x3C ∷ [])) (hex 6 0x2D9200009118) (onBench Talking (fullFlash 0x0C) wrp7)
     ∷ filled (askWriteOptions wrp7 ∷ []) (put 0x3C) done (onBench Talking (fullFlash 0x0C) wrp7)
     ∷ filled [] (askWriteOptions rdpWrp7) done (fullDevice rdpWrp7)

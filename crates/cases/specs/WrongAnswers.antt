@@ -16,12 +16,12 @@ use Rattle.memory.specs.Ranges.{within}
 use Rattle.memory.specs.Stores.{holds, kept, masked, part, replaced, replacing, same}
 use Rattle.memory.specs.declared.PageRun.{PageRun}
 use Rattle.tm32.specs.After.{after, callChecks, lay, tell}
-use Rattle.tm32_asks.specs.Checks.{checks, flashPages, isUart, protections, readChecks, verdict, writeChecks}
+use Rattle.tm32_asks.specs.Checks.{checks, flashPages, isPageCount, isUart, protections, readChecks, verdict, writeChecks}
 use Rattle.tm32.specs.Device.{Device, restart, sessionOf, start}
 use Rattle.tm32.specs.Fresh.{freshDevice, freshFlash, freshNvr, freshOptions, freshRam, freshSettings, withStart}
 use Rattle.tm32_asks.specs.Map.{inFlash, inGoRegion, inNvr, inRam, inReadRegion, inUserRegion}
 use Rattle.tm32_asks.specs.Numbers.{fromOneTo, longAt}
-use Rattle.tm32_asks.specs.Options.{inEither, optionBytes, rdpOn}
+use Rattle.tm32_asks.specs.Options.{inEither, optionBytes, rdpOn, underPcrop}
 use Rattle.tm32_asks.specs.Rates.{bitsPerSecond, isRate, rates}
 use Rattle.tm32_asks.specs.Request.{exactly, readingResult, requestIn, requestOf, writeIn}
 use Rattle.tm32.specs.Respond.{greet, isWaiting, refuse, replyTo, respond, serve, verdictOn}
@@ -33,7 +33,7 @@ use Rattle.tm32.specs.declared.Session.{Session}
 use Rattle.tm32.specs.declared.Settings.{Settings}
 use Rattle.tm32.specs.declared.State.the-variants.{Talking, Waiting}
 use Rattle.cases.specs.Cases.{flashBytes, fullDevice, fullFlash, onBench, oneByte, pcrop5, prepared, rdpWrp7, wrp7}
-use Rattle.cases.specs.Wire.{askRead, askWrite, askWriteOptions, done, halfwords, handshake, hex, little, message, off, options}
+use Rattle.cases.specs.Wire.{askRead, askWrite, askWriteOptions, done, first, halfwords, handshake, hex, little, message, noPages, off, options}
 
 -- ---- frame
 
@@ -70,7 +70,7 @@ write-begins-and-refuses is = true≢false (ap (same (replicate 5 0x11)) is)
 -- ---- memory
 
 -- within: the last byte of a range is not asked for
-pub end-not-asked-for : within 0x08000000 0x8000 0x08007FFF 2 ≢ true
+pub end-not-asked-for : within 0x08000000 0xC000 0x0800BFFF 2 ≢ true
 unfolding within
 end-not-asked-for is = false≢true is
 
@@ -127,14 +127,28 @@ unfolding fromOneTo
 rate-above-the-last is = false≢true is
 
 -- in_flash: a range that only begins in the flash
-pub flash-runs-on : inFlash 0x08007FFF 2 ≢ true
+pub flash-runs-on : inFlash 0x0800BFFF 2 ≢ true
 unfolding within
 flash-runs-on is = false≢true is
 
 -- in_flash: the last byte is left out
-pub flash-ends-early : inFlash 0x08007FFF 1 ≢ false
+pub flash-ends-early : inFlash 0x0800BFFF 1 ≢ false
 unfolding within
 flash-ends-early is = true≢false is
+
+-- in_flash: it ends with page 31
+pub flash-of-32-pages : inFlash 0x08008000 1 ≢ false
+unfolding within
+flash-of-32-pages is = true≢false is
+
+-- verdict: 33 pages are too many, and page 32 is never protected
+pub erase-of-32-pages : isPageCount 33 ≢ false
+unfolding fromOneTo
+erase-of-32-pages is = true≢false is
+
+pub protection-of-32-pages : underPcrop (options 0xAA (first 32) noPages) 32 ≢ false
+unfolding little halfwords options inEither covers
+protection-of-32-pages is = true≢false is
 
 -- in_ram: the RAM that the boot loader keeps counts too
 pub loader-ram-counts : inRam 0x20001BFF 1 ≢ true

@@ -8,7 +8,7 @@ abbrev pub pageSize : ℕ
 pageSize = 1024
 
 abbrev pub pageCount : ℕ
-pageCount = 32
+pageCount = 48
 
 -- The user flash.
 abbrev pub flashStart : ℕ

@@ -190,7 +190,8 @@ fn flash_pages(address: u32, count: u32) -> PageRun
     PageRun { first: 0, count: 0 }
 }
 
-// Whether so many pages from the first on reach past the last page.
+// Whether so many pages from the first on reach past the last page. This contract lays the code's count of pages against that of the
+// definitions: it can be proved only where they are one number.
 fn past_the_last_page(first: u32, count: u32) -> bool
     ensures { λ r. ⌜ r ≡ ltb pageCount (first + count) ⌝ }
 {

@@ -2,10 +2,10 @@
 ghost use mathlib.Core.Path.{_≡_};
 ghost use Rattle.tm32_asks.specs.Map.{inFlash, inFlashOrRam, inGoRegion, inNvr, inRam, inReadRegion, inUserRegion};
 
-// How long a page of the flash is, and how many there are.
+// How long a page of the flash is, and how many there are. The flash's length follows from the two.
 pub const PAGE_SIZE: u32 = 1024;
 
-pub const PAGE_COUNT: u32 = 32;
+pub const PAGE_COUNT: u32 = 48;
 
 // The user flash.
 pub const FLASH_START: u32 = 0x08000000;
