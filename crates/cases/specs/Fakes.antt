@@ -12,6 +12,7 @@ use Rattle.frame.specs.Frame.{covered, dataOf, frame, reading, word, wordAt}
 use Rattle.memory.specs.Pages.{covers, someFrom, somePage, touched}
 use Rattle.memory.specs.Ranges.{within}
 use Rattle.memory.specs.Stores.{kept, masked, part, replaced, same}
+use Rattle.memory.proofs.Choices.{of-both}
 use Rattle.tm32.specs.After.{After, after, afterOf, callChecks, lay, tell}
 use Rattle.tm32_asks.specs.Checks.{checks, flashPages, protections, verdict, writeChecks}
 use Rattle.tm32.specs.Device.{Device, deviceOf}
@@ -23,7 +24,6 @@ use Rattle.tm32_asks.specs.Request.{readingResult, requestIn, requestOf, writeI
 use Rattle.tm32.specs.Respond.{greet, hello, replyTo, respond, serve, verdictOn}
 use Rattle.tm32.specs.Work.{work, written}
 use Rattle.tm32.specs.declared.Settings.{Settings}
-use Rattle.tm32_asks.proofs.Accepted.{of-both}
 use Rattle.cases.specs.Cases.{blankDevice, lentBuffer, put}
 use Rattle.cases.specs.Wire.{halfwords, handshake, hex, little, message, off, options}
 

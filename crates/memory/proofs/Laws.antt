@@ -4,7 +4,7 @@
 --                                            a memory with other bytes from a place on: these stand there, and every other byte is as it was
 --     length-masked, masked-at, length-kept, kept-at     what programming leaves of bytes that are given
 --     same-itself, same-equal                the comparison of two lists
---     stored, not-stored, programmed, not-programmed     which answer a store gives, and what it leaves of the memory
+--     stored, store-leaves, not-stored, programmed, not-programmed     which answer a store gives, and what it leaves of the memory
 --     store-answered                         the other way round: what is known of a store by its answer
 --     in-region, region-holds                a range lies in a region just where both its ends do
 --     some-page, some-none, some-one, some-grows, some-either     whether some page of a run passes a test
@@ -170,6 +170,10 @@ module _ (memory : List ℕ) (place : ℕ) (bytes : List ℕ) where
   pub stored : place + length bytes ≤ length memory → replacing memory place bytes ≡ change true (replaced memory place bytes)
   unfolding replacing holds
   stored fits = simp (le-leb _ _ fits)
+
+  -- and stand in the memory afterwards
+  pub store-leaves : place + length bytes ≤ length memory → (done : Bool) (after : List ℕ) → change done after ≡ replacing memory place bytes → after ≡ replaced memory place bytes
+  store-leaves fits done after told = ap (λ (did : Change). did .memory) (told ∙ stored fits)
 
   -- bytes that reach past the end are not, and nothing changes
   pub not-stored : length memory < place + length bytes → replacing memory place bytes ≡ change false memory

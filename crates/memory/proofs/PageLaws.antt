@@ -19,9 +19,10 @@ use lib.ListN.{length, take, drop, getD, getD-replicate, length-drop, length-rep
 use lib.Seq.{drop-append-add, ext-getD, length-take-le, take-append-add}
 use Rattle.memory.specs.Erases.{erasedPages, wipedFrom, wipedPages}
 use Rattle.memory.specs.Pages.{covers, meets, touched}
-use Rattle.memory.specs.Stores.{Change, change, replaced, replacing}
+use Rattle.memory.specs.Stores.{change, replaced, replacing}
 use Rattle.memory.specs.declared.PageRun.{PageRun}
-use Rattle.memory.proofs.Laws.{AllBytes, covered, covers-known, length-replaced, replaced-before, replaced-behind, replaced-bytes, replaced-inside, replicate-bytes, some-grows, stored, touched-is, touched-nothing}
+use Rattle.memory.proofs.Choices.{of-test}
+use Rattle.memory.proofs.Laws.{AllBytes, covered, covers-known, length-replaced, replaced-before, replaced-behind, replaced-bytes, replaced-inside, replicate-bytes, some-grows, store-leaves, touched-is, touched-nothing}
 use Rattle.memory.proofs.Quotients.{no-earlier}
 use Rattle.memory.proofs.Runs.{not-all-pass}
 
@@ -93,7 +94,7 @@ module _ (size blank : ℕ) (some : 0 < size) (total : ℕ) (memory : List ℕ) 
   pub fill-erases : (done : Bool) (after : List ℕ) → change done after ≡ replacing memory (first * size) (replicate (count * size) blank)
       → after ≡ erasedPages size blank memory first count
   unfolding erasedPages
-  fill-erases done after told = ap (λ (did : Change). did .memory) (told ∙ stored memory (first * size) (replicate (count * size) blank) erase-fits)
+  fill-erases done after told = store-leaves memory (first * size) (replicate (count * size) blank) erase-fits done after told
 
   -- the memory is as long as before
   pub erase-length : length (erasedPages size blank memory first count) ≡ length memory
@@ -133,11 +134,6 @@ module _ (size blank : ℕ) (some : 0 < size) (total : ℕ) (memory : List ℕ) 
 
 -- ---- a wipe
 
--- what holds of one list and of another holds of the one that a test picks
-picked : (P : List ℕ → Type 0) (test : Bool) {one other : List ℕ} → (test ≡ true → P one) → (test ≡ false → P other) → P (cond test one other)
-picked P true one other = one refl
-picked P false one other = other refl
-
 -- bytes that are stored behind a front leave it
 behind-front : (front memory : List ℕ) (place : ℕ) (bytes : List ℕ) → replaced (front ++ memory) (length front + place) bytes ≡ front ++ replaced memory place bytes
 unfolding replaced
@@ -165,7 +161,7 @@ module _ (size blank : ℕ) (test : ℕ → Bool) where
 
   front-length : (page : ℕ) (memory : List ℕ) → size ≤ length memory → length (front page memory) ≡ size
   front-length page memory room =
-      picked (λ (list : List ℕ). length list ≡ size) (test page) (λ wipes. length-replicate size blank) (λ spares. length-take-le size memory room)
+      of-test (λ (list : List ℕ). length list ≡ size) (test page) (λ wipes. length-replicate size blank) (λ spares. length-take-le size memory room)
 
   -- one page alone
   one-page : (wipes : Bool) (memory : List ℕ) → cond wipes (replicate size blank) (take size memory) ++ drop size memory ≡ cond wipes (erasedPages size blank memory 0 1) memory
@@ -217,7 +213,7 @@ module _ (size blank : ℕ) (some : 0 < size) (test : ℕ → Bool) (total : ℕ
   wipe-length (suc page) had =
       let same = wipe-length page (omega arith) in
       rw (wipe-turn page had)
-      (picked (λ (now : List ℕ). length now ≡ length memory) (test page)
+      (of-test (λ (now : List ℕ). length now ≡ length memory) (test page)
       (λ wipes. erase-length size blank some total (after page) (same ∙ sized) page 1 (omega arith) ∙ same)
       (λ spares. same))
 
@@ -235,10 +231,10 @@ module _ (size blank : ℕ) (some : 0 < size) (test : ℕ → Bool) (total : ℕ
     by-turn : test (i / size) ≡ true → (i / size < page → getD (after page) i 0 ≡ blank) → Dec (i / size < page) → i / size ≤ page
         → getD (cond (test page) (erasedPages size blank (after page) page 1) (after page)) i 0 ≡ blank
     by-turn passes was (yes earlier) upto =
-        picked (λ (now : List ℕ). getD now i 0 ≡ blank) (test page) (λ wipes. elsewhere (λ on. omega arith) ∙ was earlier) (λ spares. was earlier)
+        of-test (λ (now : List ℕ). getD now i 0 ≡ blank) (test page) (λ wipes. elsewhere (λ on. omega arith) ∙ was earlier) (λ spares. was earlier)
     by-turn passes was (no now) upto =
         let on : i / size ≡ page = omega arith in
-        picked (λ (now : List ℕ). getD now i 0 ≡ blank) (test page) (λ wipes. cleared on)
+        of-test (λ (now : List ℕ). getD now i 0 ≡ blank) (test page) (λ wipes. cleared on)
         (λ spares. absurd (true≢false (sym passes ∙ ap test on ∙ spares)))
 
   -- a byte on a page that passes the test is blank
@@ -254,7 +250,7 @@ module _ (size blank : ℕ) (some : 0 < size) (test : ℕ → Bool) (total : ℕ
   off-wiped (suc page) i had spared =
       let was = off-wiped page i (omega arith) (λ before. spared (omega arith)) in
       rw (wipe-turn page had)
-      (picked (λ (now : List ℕ). getD now i 0 ≡ getD memory i 0) (test page)
+      (of-test (λ (now : List ℕ). getD now i 0 ≡ getD memory i 0) (test page)
       (λ wipes. elsewhere page (omega arith) i (λ on. true≢false (sym wipes ∙ ap test (sym on) ∙ spared (omega arith))) ∙ was)
       (λ spares. was))
 
@@ -273,6 +269,6 @@ module _ (size blank : ℕ) (some : 0 < size) (test : ℕ → Bool) (total : ℕ
   wipe-bytes small all (suc page) had =
       let was = wipe-bytes small all page (omega arith) in
       rw (wipe-turn page had)
-      (picked AllBytes (test page)
+      (of-test AllBytes (test page)
       (λ wipes. erase-bytes size blank some total (after page) (wipe-length page (omega arith) ∙ sized) page 1 (omega arith) small was)
       (λ spares. was))

@@ -9,7 +9,8 @@ use Rattle.memory.specs.Stores.{replaced}
 unfoldable pub erasedPages : ℕ → ℕ → List ℕ → ℕ → ℕ → List ℕ
 erasedPages size blank memory first count = replaced memory (first * size) (replicate (count * size) blank)
 
--- A wipe of so many pages, of which the first has a number: each that passes a test becomes blank. The others stay, and so does what stands behind them.
+-- A wipe of so many pages, of which the first has a number: each that passes a test becomes blank. The others stay, and so does what stands behind them. It is said of a memory that has all of
+-- these pages.
 unfoldable pub wipedFrom : ℕ → ℕ → (ℕ → Bool) → ℕ → ℕ → List ℕ → List ℕ
 wipedFrom size blank test page zero memory = memory
 wipedFrom size blank test page (suc count) memory =

@@ -10,7 +10,7 @@ use lib.ListN.{length, length-drop}
 use Rattle.frame.specs.Frame.{wordAt}
 use Rattle.tm32.specs.Device.{Device, Memory}
 use Rattle.tm32.specs.declared.Settings.{Settings}
-use Rattle.tm32_asks.proofs.Accepted.{of-both}
+use Rattle.memory.proofs.Choices.{of-both}
 use Rattle.tape.specs.Play.{Left, Playing, leftBy, played, playTape}
 use Rattle.tape.specs.Records.{headLength}
 use Rattle.tape.specs.Script.{messageKind, mostBody, nextIn}

@@ -9,7 +9,7 @@ use lib.Dec.{eqb, ltb}
 use lib.ListN.{length, take, drop, length-append, length-drop, List·getD-append}
 use lib.Seq.{drop-append-le, take-append-le}
 use Rattle.frame.specs.Frame.{wordAt}
-use Rattle.tm32_asks.proofs.Accepted.{of-both}
+use Rattle.memory.proofs.Choices.{of-both}
 use Rattle.tape.specs.Records.{bodyIn, headLength, recordIn}
 use Rattle.tape.specs.Script.{bodyTooLong, cut, cutShort, judged, messageKind, mostBody, nextIn, nextOf, unknownKind}
 use Rattle.tape.specs.declared.Found.{Found}

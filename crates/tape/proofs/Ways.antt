@@ -12,7 +12,7 @@ use Rattle.frame.specs.Frame.{wordAt}
 use Rattle.tm32.specs.After.{Told, noReply, replied, replyRoom, tell}
 use Rattle.tm32.specs.Device.{Device}
 use Rattle.tm32.specs.declared.Settings.{Settings}
-use Rattle.tm32_asks.proofs.Accepted.{of-both}
+use Rattle.memory.proofs.Choices.{of-both}
 use Rattle.tape.specs.Play.{Playing, behind, closing, playTape, recordRoom, replyKind, stopped}
 use Rattle.tape.specs.Records.{bodyIn, headLength, recordIn, recordOf}
 use Rattle.tape.specs.Script.{Script, bodyTooLong, cut, cutShort, headed, judged, messageKind, mostBody, nextIn, nextOf, scriptFrom, unknownKind}

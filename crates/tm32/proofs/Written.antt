@@ -1,24 +1,18 @@
--- What stores, erases and wipes leave in memory that has room for them, and how long it is, and how much is read of it.
+-- How long memory is after erases and wipes that it has room for, and how much is read of it.
 use Prim.Native.Nat.{ℕ, _+_, _≤_}
-use mathlib.Core.Bool.{Bool}
 use mathlib.Core.List.{List}
-use mathlib.Core.Path.{_≡_, ap, _∙_}
+use mathlib.Core.Path.{_≡_, _∙_}
 use native.Mathlib.Omega.{arith}
 use lib.Dec.{lit<}
 use lib.ListN.{length, length-take, drop}
-use Rattle.memory.specs.Stores.{Change, change, part, replaced, replacing}
-use Rattle.memory.proofs.Laws.{length-part, stored}
+use Rattle.memory.specs.Stores.{part}
+use Rattle.memory.proofs.Choices.{of-both}
+use Rattle.memory.proofs.Laws.{length-part}
 use Rattle.memory.proofs.PageLaws.{erase-length, wipe-length}
 use Rattle.tm32.specs.Device.{Memory, bytesAt}
 use Rattle.tm32_asks.specs.Map.{blank, flashLength, inFlash, inRam, nvrLength, optionsLength, pageCount, pageSize}
 use Rattle.tm32_asks.specs.Options.{optionBytes}
 use Rattle.tm32.specs.Work.{erased, wiped, wipes}
-use Rattle.tm32_asks.proofs.Accepted.{of-both}
-
--- bytes that fit stand in the memory after the store
-pub stores : (memory : List ℕ) (place : ℕ) (bytes : List ℕ) → place + length bytes ≤ length memory
-    → (done : Bool) (after : List ℕ) → change done after ≡ replacing memory place bytes → after ≡ replaced memory place bytes
-stores memory place bytes fits done after told = ap (λ (did : Change). did .memory) (told ∙ stored memory place bytes fits)
 
 -- an erase keeps the flash's length
 pub erased-length : (flash : List ℕ) (first count : ℕ) → length flash ≡ flashLength → first + count ≤ pageCount → length (erased flash first count) ≡ flashLength

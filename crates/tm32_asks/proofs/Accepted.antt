@@ -8,6 +8,7 @@ use lib.Dec.{eqb, leb, ltb}
 use lib.ListN.{length, drop, getD, length-drop}
 use Rattle.frame.specs.Frame.{dataOf, reading}
 use Rattle.memory.specs.Pages.{pages, somePage}
+use Rattle.memory.proofs.Choices.{of-both, of-test}
 use Rattle.tm32_asks.specs.Checks.{Check, checks, checksOf, flashPages, isLength, mostBytes, noneFails, protections, readChecks, writeChecks}
 use Rattle.tm32_asks.specs.Map.{inReadRegion, inUserRegion, optionsLength, pageCount}
 use Rattle.tm32_asks.specs.Numbers.{fromOneTo}
@@ -101,16 +102,6 @@ Shaped payload WriteOptions = length payload ≡ optionsLength
 Shaped payload ReadOptions = Unit {0}
 Shaped payload HeartBeat = Unit {0}
 Shaped payload Misshapen = Unit {0}
-
--- what holds of both branches holds of the choice, and of the first only its test needs to be known
-pub of-both : {A : Type 0} (P : A → Type 0) (test : Bool) {x y : A} → P x → P y → P (cond test x y)
-of-both P true px py = px
-of-both P false px py = py
-
--- or where each test is known
-pub of-test : {A : Type 0} (P : A → Type 0) (test : Bool) {x y : A} → (test ≡ true → P x) → (test ≡ false → P y) → P (cond test x y)
-of-test P true px py = px refl
-of-test P false px py = py refl
 
 -- data that must be just so long
 exactly-shaped : (count : ℕ) (payload : List ℕ) (request : Request) → (length payload ≡ count → Shaped payload request) → Shaped payload (exactly count payload request)

@@ -8,7 +8,7 @@ use lib.ListN.{length, drop}
 use lib.Seq.{drop-drop}
 use Rattle.tm32.specs.Device.{Device}
 use Rattle.tm32.specs.declared.Settings.{Settings}
-use Rattle.tm32_asks.proofs.Accepted.{of-test}
+use Rattle.memory.proofs.Choices.{of-test}
 use Rattle.tape.specs.Play.{Playing, behind, playTape, recordRoom}
 use Rattle.tape.specs.Records.{headLength}
 use Rattle.tape.specs.Script.{Script}

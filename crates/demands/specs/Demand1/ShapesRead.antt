@@ -18,7 +18,7 @@ use Rattle.tm32_asks.specs.Request.{exactly, readingResult, requestIn, requestO
 use Rattle.tm32_asks.specs.Results.{workDone, wrongShape}
 use Rattle.tm32_asks.specs.declared.Request.{Request}
 use Rattle.tm32_asks.specs.declared.Request.the-variants.{Misshapen}
-use Rattle.tm32_asks.proofs.Accepted.{of-test}
+use Rattle.memory.proofs.Choices.{of-test}
 use Rattle.tm32_asks.proofs.Verdicts.{Unnumbered, isNot, passAll}
 use Rattle.demands.specs.Demand1.Reasons.{Reason, differs, failed, noHello}
 use Rattle.demands.specs.Demand1.Refusals.{isOneOf}

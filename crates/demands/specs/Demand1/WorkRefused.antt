@@ -9,6 +9,7 @@ use lib.ListN.{drop, length}
 use Rattle.frame.specs.Frame.{dataOf, frame}
 use Rattle.memory.specs.Stores.{same}
 use Rattle.memory.specs.declared.Programmed.{Programmed}
+use Rattle.memory.proofs.Choices.{of-both}
 use Rattle.tm32.specs.After.{Telling, lay, replied}
 use Rattle.tm32.specs.Device.{Device, Memory, bytesAt}
 use Rattle.tm32_asks.specs.Request.{requestIn}
@@ -19,7 +20,6 @@ use Rattle.tm32.specs.declared.Answer.the-variants.{Refused}
 use Rattle.tm32_asks.specs.declared.Request.{Request}
 use Rattle.tm32_asks.specs.declared.Request.the-variants.{Pps, Get, Read, Write, MemoryCrc, Erase, Go, WriteOptions, ReadOptions, HeartBeat, Misshapen}
 use Rattle.tm32.specs.declared.Settings.{Settings}
-use Rattle.tm32_asks.proofs.Accepted.{of-both}
 use Rattle.tm32_asks.proofs.Verdicts.{passAll}
 use Rattle.demands.specs.Demand1.Refusals.{isOneOf, isRefusal, refusals}
 use Rattle.demands.specs.Messages.FirstFailing.{Called, heard, unheard}

@@ -21,7 +21,8 @@ use Rattle.tm32.specs.Work.{compared, information, work, written}
 use Rattle.tm32_asks.specs.declared.Request.{Request}
 use Rattle.tm32_asks.specs.declared.Request.the-variants.{Pps, Get, Read, Write, MemoryCrc, Erase, Go, WriteOptions, ReadOptions, HeartBeat, Misshapen}
 use Rattle.tm32.specs.declared.Settings.{Settings}
-use Rattle.tm32_asks.proofs.Accepted.{of-both, read-accepted}
+use Rattle.memory.proofs.Choices.{of-both}
+use Rattle.tm32_asks.proofs.Accepted.{read-accepted}
 use Rattle.tm32_asks.proofs.Verdicts.{of-numbers, passAll}
 use Rattle.tm32.proofs.Written.{part-length, read-length}
 use Rattle.demands.specs.Demand1.Refusals.{isOneOf}

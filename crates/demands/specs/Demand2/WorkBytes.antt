@@ -11,6 +11,7 @@ use lib.ListN.{drop, length}
 use Rattle.frame.specs.Frame.{dataOf, frame, word}
 use Rattle.frame.proofs.Laws.{frame-bytes, joined-bytes, last-bytes, more-bytes, none-bytes, word-bytes}
 use Rattle.memory.specs.Stores.{kept}
+use Rattle.memory.proofs.Choices.{of-both}
 use Rattle.memory.proofs.Laws.{AllBytes, kept-bytes, length-kept, part-bytes, replaced-bytes}
 use Rattle.memory.proofs.PageLaws.{erase-bytes, wipe-bytes}
 use Rattle.tm32.specs.Device.{Device, Memory, bytesAt}
@@ -25,7 +26,7 @@ use Rattle.tm32.specs.Work.{commandWord, erased, information, wiped, wipes, wit
 use Rattle.tm32_asks.specs.declared.Request.{Request}
 use Rattle.tm32_asks.specs.declared.Request.the-variants.{Pps, Get, Read, Write, MemoryCrc, Erase, Go, WriteOptions, ReadOptions, HeartBeat, Misshapen}
 use Rattle.tm32.specs.declared.Settings.{Settings}
-use Rattle.tm32_asks.proofs.Accepted.{Shaped, erase-accepted, of-both, write-accepted}
+use Rattle.tm32_asks.proofs.Accepted.{Shaped, erase-accepted, write-accepted}
 use Rattle.tm32_asks.proofs.Verdicts.{passAll}
 use Rattle.demands.specs.Demand1.WorkRefused.{one-of-so}
 use Rattle.demands.specs.Demand2.Memories.{MemoryBytes, SettingsBytes}

@@ -8,6 +8,7 @@ use borrow.Author.Tests.{eqb-false, eqb-true, not-true}
 use lib.Dec.{eqb}
 use Rattle.frame.specs.Frame.{covered, dataOf, frame}
 use Rattle.memory.specs.Stores.{same}
+use Rattle.memory.proofs.Choices.{of-both}
 use Rattle.shape.specs.MoreRights.{Growing, SameWork}
 use Rattle.shape.specs.Shape.{Step, Verdict, passes, refuses, tells}
 use Rattle.tm32.specs.After.{Told, callChecks, noReply}
@@ -25,7 +26,7 @@ use Rattle.tm32.specs.declared.Session.{Session}
 use Rattle.tm32.specs.declared.Settings.{Settings}
 use Rattle.tm32.specs.declared.State.{State}
 use Rattle.tm32.specs.declared.State.the-variants.{Talking}
-use Rattle.tm32_asks.proofs.Accepted.{of-both, shaped-so}
+use Rattle.tm32_asks.proofs.Accepted.{shaped-so}
 use Rattle.tm32_asks.proofs.Verdicts.{checks-others, none-fails, passAll, request-others, second-list-decides}
 use Rattle.tm32.proofs.Passed.{lent}
 use Rattle.demands.specs.Demand1.Refusals.{isOneOf}

@@ -8,8 +8,8 @@ use borrow.Author.Needs.{needs}
 use borrow.Author.Tests.{eq-eqb, ne-eqb}
 use lib.ListN.{length, replicate, drop-of-length-le, length-replicate}
 use Rattle.frame.specs.Frame.{word}
-use Rattle.memory.specs.Stores.{Change, change, replaced, replacing}
-use Rattle.memory.proofs.Laws.{stored}
+use Rattle.memory.specs.Stores.{change, replaced, replacing}
+use Rattle.memory.proofs.Laws.{store-leaves}
 use Rattle.tm32.specs.After.{callChecks}
 use Rattle.tm32_asks.specs.Checks.{verdict}
 use Rattle.tm32.specs.Device.{memoryOf}
@@ -22,11 +22,6 @@ use Rattle.tape.specs.declared.Begun.the-variants.{Ready}
 use Rattle.tape.proofs.starting.fresh.Statement.{statement}
 use Rattle.tape.proofs.starting.fresh.Tie as tie
 
--- bytes that fit were stored
-stored-there : (memory bytes after : List ℕ) (place : ℕ) (done : Bool) → change done after ≡ replacing memory place bytes → place + length bytes ≤ length memory
-    → after ≡ replaced memory place bytes
-stored-there memory bytes after place done did fits = ap (λ (change : Change). change .memory) (did ∙ stored memory place bytes fits)
-
 -- memory that is filled from end to end
 filled : (memory after : List ℕ) (count value : ℕ) (done : Bool) → change done after ≡ replacing memory 0 (replicate count value) → length memory ≡ count
     → after ≡ replicate count value
@@ -35,7 +30,7 @@ filled memory after count value done did long =
     let size = length-replicate count value in
     let fits : 0 + length (replicate count value) ≤ length memory = omega arith in
     let rest : length memory ≤ 0 + length (replicate count value) = omega arith in
-    stored-there memory (replicate count value) after 0 done did fits
+    store-leaves memory 0 (replicate count value) fits done after did
     ∙ ap (λ (list : List ℕ). replicate count value ++ list) (drop-of-length-le memory rest)
     ∙ append-nil (replicate count value)
 
@@ -90,7 +85,7 @@ unfolding freshNvr freshOptions word
 options-stored nvr after done clear did =
     let long : length nvr ≡ nvrLength = ap length clear ∙ length-replicate {A = ℕ} nvrLength 0 in
     let fits : optionsStart - nvrStart + length freshOptions ≤ length nvr = omega arith in
-    stored-there nvr freshOptions after (optionsStart - nvrStart) done did fits
+    store-leaves nvr (optionsStart - nvrStart) freshOptions fits done after did
     ∙ ap (λ (list : List ℕ). replaced list (optionsStart - nvrStart) freshOptions) clear
 
 returns-4 : tie.Need-returns-4

@@ -9,12 +9,11 @@ use denote.Ref.{now}
 use lib.ListN.{length}
 use Rattle.memory.specs.Stores.{Outcome, change, kept, part, programming, replaced, replacing, same}
 use Rattle.memory.specs.declared.Programmed.the-variants.{AsGiven, Differs}
-use Rattle.memory.proofs.Laws.{length-kept, part-of-replaced, programmed, region-holds, same-itself}
+use Rattle.memory.proofs.Laws.{length-kept, part-of-replaced, programmed, region-holds, same-itself, store-leaves}
 use Rattle.tm32.specs.Device.{Memory, bytesAt, memoryOf}
 use Rattle.tm32_asks.specs.Map.{flashLength, flashStart, inFlash, inRam, inUserNvr, inUserRegion, nvrStart, ramLength, ramStart, userNvrLength, userNvrStart}
 use Rattle.tm32_asks.specs.Results.{workDone}
 use Rattle.tm32.specs.Work.{programmedResult, readback, written}
-use Rattle.tm32.proofs.Written.{stores}
 use Rattle.tm32.proofs.write.work.Statement.{statement}
 use Rattle.tm32.proofs.write.work.Tie as tie
 
@@ -68,7 +67,7 @@ module _ (flash ram nvr : List ℕ) (flag address : ℕ) (bytes : List ℕ) wher
       → (done : Bool) (ram′ : List ℕ) → change done ram′ ≡ replacing ram (address - ramStart) bytes → Wrote flash ram′ nvr workDone
   unfolding written bytesAt
   in-ram outside inside fits done ram′ told =
-      let is = stores ram _ bytes fits done ram′ told in
+      let is = store-leaves ram _ bytes fits done ram′ told in
       as-sent flash ram′ nvr (simp (outside, inside, is)) (simp (outside, inside, is, part-of-replaced ram _ bytes fits))
 
   -- and so in NVR
@@ -76,7 +75,7 @@ module _ (flash ram nvr : List ℕ) (flag address : ℕ) (bytes : List ℕ) wher
       → (done : Bool) (nvr′ : List ℕ) → change done nvr′ ≡ replacing nvr (address - nvrStart) bytes → Wrote flash ram nvr′ workDone
   unfolding written bytesAt
   in-nvr outside outside′ fits done nvr′ told =
-      let is = stores nvr _ bytes fits done nvr′ told in
+      let is = store-leaves nvr _ bytes fits done nvr′ told in
       as-sent flash ram nvr′ (simp (outside, outside′, is)) (simp (outside, outside′, is, part-of-replaced nvr _ bytes fits))
 
 -- a range that a write may name, in neither flash nor RAM, lies in NVR5 and NVR6

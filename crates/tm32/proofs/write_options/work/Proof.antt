@@ -6,9 +6,9 @@ use native.Mathlib.Omega.{arith}
 use borrow.Author.Needs.{needs}
 use denote.Ref.{now}
 use lib.ListN.{length}
+use Rattle.memory.proofs.Laws.{store-leaves}
 use Rattle.tm32_asks.specs.Map.{pageCount}
 use Rattle.tm32.specs.Work.{wiped}
-use Rattle.tm32.proofs.Written.{stores}
 use Rattle.tm32.proofs.write_options.work.Statement.{statement}
 use Rattle.tm32.proofs.write_options.work.Tie as tie
 
@@ -35,7 +35,7 @@ returns c =
     let args = read .before .before .before .before .before .args in (
       wipe .wipe .ensures
           ∙ ap (λ (old : List ℕ). wiped old (now (args .options)) pageCount (now (args .flash))) (read .work .ensures),
-      stores _ _ _ (omega arith) _ _ (store .store .ensures),
+      store-leaves _ _ _ (omega arith) _ _ (store .store .ensures),
     )
 
 pub work-spec : {M : Type 1} → statement M
