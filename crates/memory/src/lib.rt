@@ -1,6 +1,8 @@
 // Lent memory of any chip: ranges of addresses, pages of any size, and stores that leave every other byte alone.
 //
 // The crate knows no map and no protection of its own: where a region lies and how long a page is are arguments throughout.
+#![tactic(auto)]
+
 mod pages;
 mod ranges;
 mod stores;
