@@ -1,6 +1,8 @@
 // Bytes on the wire: the CRC of 16 bits and the frames that it closes. Document 01, "A message and its reply".
 //
 // The crate knows no chip and no command. Where the CRC starts is an argument of everything here.
+#![tactic(auto)]
+
 mod crc16;
 mod reader;
 mod writer;

@@ -27,11 +27,19 @@ fn put(start: u16, second: u8, payload: &[u8], buffer: &mut [u8])
     ensures { buffer.new ≡ laid (frame start second payload.now) buffer.old }
 {
     let size = word(payload.len() as u16);
-    bytes::copy(&[HEAD, second, size[0], size[1]], buffer);
-    bytes::copy(payload, &mut buffer[4..]);
+    lay(&[HEAD, second, size[0], size[1]], buffer);
+    lay(payload, &mut buffer[4..]);
     let crc_place = payload.len() + 4;
     let sum = word(crc(start, &buffer[..crc_place]));
-    bytes::copy(&sum, &mut buffer[crc_place..]);
+    lay(&sum, &mut buffer[crc_place..]);
+}
+
+// Lays some bytes over the start of a buffer that has room for them.
+fn lay(bytes: &[u8], buffer: &mut [u8])
+    requires { length bytes.now ≤ length buffer.old }
+    ensures { buffer.new ≡ laid bytes.now buffer.old }
+{
+    buffer[..bytes.len()].copy_from_slice(bytes);
 }
 
 // A number as it stands on the wire, low byte first.

@@ -64,6 +64,8 @@ abbrev table : Fn
 table = record {
   lifetimes = 0;
   outlives = [];
+  ty_params = [];
+  givens = 0;
   params = 1;
   locals = local (ty_int w16) value_local ∷ local (ty_int w8) value_local ∷ local (ty_int w16) value_local ∷ [];
   body = seq (switch (copy (place 1 [])) (arms_from 256 0)) the_rest;
@@ -142,8 +144,9 @@ module _ {M : Type 1} {𝓤 : Ura M} (𝓛 : Logic 𝓤) (mem : Memory → SProp
   entry_meets = subst (λ (f : Fn). Meets 𝓛 entry.signature (WpFn 𝓤 H 𝓣.C 𝓣.Λ f) (entry.spec 𝓛 mem run)) is_table table_meets
 
 pub entry_spec : {M : Type 1} → stated.statement M
-unfolding code.routine tables_of
-entry_spec 𝓤 𝓛 𝓜 𝓡 =
-    entered 𝓤 𝓛.H (triple_of 𝓛 entry.signature (entry.spec 𝓛 𝓜.mem 𝓡.run))
-    (tables 𝓤 𝓛.H 𝓜 𝓡 code.env).C (tables 𝓤 𝓛.H 𝓜 𝓡 code.env).Λ #frame·crc16·entry code.function (code.unfolded 𝓤 𝓛.H 𝓜 𝓡)
-    (entry_meets 𝓛 𝓜.mem 𝓡.run (tables_of 𝓤 𝓛.H 𝓜 (tables 𝓤 𝓛.H 𝓜 𝓡 code.env)))
+unfolding tables_of
+entry_spec 𝓤 𝓛 𝓜 𝓡 wired =
+    let 𝓣 = tables 𝓤 𝓛.H 𝓜 𝓡 𝓡.env in
+    entered 𝓤 𝓛.H (triple_of 𝓛 entry.signature (entry.spec 𝓛 𝓜.mem 𝓡.returns))
+    𝓣.C 𝓣.Λ #frame·crc16·entry code.function (code.unfolded 𝓤 𝓛.H 𝓜 𝓡 wired)
+    (entry_meets 𝓛 𝓜.mem 𝓡.returns (tables_of 𝓤 𝓛.H 𝓜 𝓣))

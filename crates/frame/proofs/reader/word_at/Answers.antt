@@ -3,11 +3,9 @@ use Prim.Native.Nat.{ℕ, ◌+◌, ◌*◌, ◌≤◌}
 use mathlib.Core.List.{List}
 use mathlib.Core.Path.{◌≡◌, sym, ap, ap₂, ◌∙◌}
 use native.Mathlib.Omega.{arith}
-use borrow.Author.Rules.{rules}
 use lib.ListN.{length, get_or, get_or-eq_default}
 use Rattle.frame.specs.Frame.{word_at}
-use Rattle.frame.proofs.reader.word_at.Statement.{statement}
-use Rattle.frame.proofs.reader.word_at.Tie as tie
+use Rattle.frame.proofs.reader.word_at.Goals as goal
 
 -- neither byte is there
 both_past : (bytes : List ℕ) (place : ℕ) → length bytes ≤ place → 0 ≡ word_at bytes place
@@ -21,25 +19,12 @@ one_past : (bytes : List ℕ) (place : ℕ) → length bytes ≤ place + 1 → g
 unfolding word_at
 one_past bytes place past = ap (λ (high : ℕ). get_or bytes place 0 + 256 * high) (sym (get_or-eq_default bytes 0 past))
 
-returns : tie.Need-returns
-returns c = both_past _ _ c.if1.true
+pub returns-then-bytes-place : goal.returns-then-bytes-place
+returns-then-bytes-place c = both_past _ _ c.if-bytes-place.true
 
-returns-2 : tie.Need-returns-2
-returns-2 c = c.joined.ensures ∙ one_past _ _ c.before.if2.true
+pub returns-then-bytes-next : goal.returns-then-bytes-next
+returns-then-bytes-next c = c.joined.ensures ∙ one_past _ _ c.if-bytes-next.true
 
-returns-3 : tie.Need-returns-3
+pub returns : goal.returns
 unfolding word_at
-returns-3 c = c.joined2.ensures
-
-pub word-at-spec : {M : Type 1} → statement M
-word-at-spec =
-    tie.close
-    (tie.spec
-    returns
-    (search rules)
-    (search rules)
-    (search rules)
-    returns-2
-    (search rules)
-    (search rules)
-    returns-3)
+returns c = c.joined-2.ensures
