@@ -1,10 +1,12 @@
 // What the command line of a program says: nothing, or behind `--start` the value that a CRC starts from.
+#![tactic(auto)]
+
 mod command_line;
 
 pub use command_line::{start, start_in};
 
 // What a CRC starts from.
-#[derive(Drop)]
+#[derive(Clone, Copy)]
 pub enum Asked {
     // From this value.
     Start { value: u16 },
@@ -15,7 +17,7 @@ pub enum Asked {
 }
 
 // What was found on the command line, and what it asks for.
-#[derive(Drop)]
+#[derive(Clone, Copy)]
 pub struct Told {
     // How many words there are, the program's own name among them.
     pub count: usize,

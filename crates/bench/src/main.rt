@@ -1,5 +1,7 @@
 // Plays a tape on a fresh device: records on standard input, records on standard output. Document 01, "The bench tape". Behind
 // `--start` the command line may give another start value of the CRC than the fresh device has.
+#![tactic(auto)]
+
 mod blocks;
 mod shell;
 

@@ -8,7 +8,7 @@ use tm32::{Session, Settings};
 
 // The session; which bytes of the block are tape that was not played yet; whether the input ended behind them; and whether there
 // is anything left to do.
-#[derive(Drop)]
+#[derive(Clone, Copy)]
 pub(crate) struct Bench {
     session: Session,
     from: usize,

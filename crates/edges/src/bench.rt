@@ -13,7 +13,7 @@ pub(crate) const NVR_ROOM: usize = NVR_LENGTH as usize + 1;
 
 pub(crate) const BUFFER_ROOM: usize = REPLY_ROOM + 1;
 
-#[derive(Drop)]
+#[derive(Clone, Copy)]
 pub(crate) struct Bench {
     pub session: Session,
     // What a CRC starts from.

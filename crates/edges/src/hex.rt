@@ -1,7 +1,7 @@
 // Numbers and bytes as they are written in the lines: bytes as 01 prints them, `2D 41`, and many of one byte as `FF*1024`.
 
 // What a line's bytes came to.
-#[derive(Drop)]
+#[derive(Clone, Copy)]
 pub(crate) enum Bytes {
     // So many stand at the start of the room.
     Told { count: usize },

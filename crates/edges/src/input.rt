@@ -1,7 +1,7 @@
 // Standard input, read whole.
 use stream::Filled;
 
-#[derive(Drop)]
+#[derive(Clone, Copy)]
 pub(crate) enum Input {
     // All of it stands at the start of the block.
     Whole { length: usize },

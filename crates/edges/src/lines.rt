@@ -22,7 +22,7 @@ pub(crate) const REMARK: u8 = b'#';
 
 pub(crate) const WRONG: u8 = b'X';
 
-#[derive(Drop)]
+#[derive(Clone, Copy)]
 pub(crate) struct Line {
     pub kind: u8,
     // The first letter of its first word, and of its second.

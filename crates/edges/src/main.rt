@@ -1,5 +1,7 @@
 // Runs the worked cases of document 01 on the device and prints a line for each: the case in words, then what came of it.
 // The cases stand in the file `stdin` beside src/, and what is right in `stdout`.
+#![tactic(auto)]
+
 mod bench;
 mod cases;
 mod hex;

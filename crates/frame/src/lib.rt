@@ -21,7 +21,7 @@ const OVERHEAD: usize = 6;
 const LONGEST: usize = 65535;
 
 // What a message is as a frame.
-#[derive(Drop)]
+#[derive(Clone, Copy)]
 pub enum Reading {
     // A sound frame: its second byte, and how long its data is.
     Sound { second: u8, length: usize },
@@ -30,7 +30,7 @@ pub enum Reading {
 }
 
 // What came of writing.
-#[derive(Drop)]
+#[derive(Clone, Copy)]
 pub enum Written {
     // The frame stands at the start of the buffer, and this is its length.
     Frame(usize),

@@ -1,5 +1,7 @@
 // Runs the frames that document 01 prints, each as it is and spoiled in six ways, and the writer's bounds, and prints a line for each.
 // What is right stands in the file `stdout` beside src/.
+#![tactic(auto)]
+
 mod show;
 mod spoiled;
 mod tally;

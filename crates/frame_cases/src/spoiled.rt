@@ -5,7 +5,7 @@ use crate::tally::Tally;
 use crate::wire::START;
 
 // A way to spoil it, which is tried with many numbers.
-#[derive(Drop)]
+#[derive(Clone, Copy)]
 pub(crate) enum Way {
     // The byte at this place is another.
     Byte(usize),

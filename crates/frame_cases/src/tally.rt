@@ -3,7 +3,7 @@ use crate::show;
 use frame::Reading;
 use std::num::wrapping_add_u64;
 
-#[derive(Drop)]
+#[derive(Clone, Copy)]
 pub(crate) struct Tally {
     sound: u64,
     at_head: u64,

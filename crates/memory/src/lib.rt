@@ -12,14 +12,14 @@ pub use ranges::within;
 pub use stores::{fill, program, store};
 
 // A run of pages: so many of them from the first on.
-#[derive(Drop)]
+#[derive(Clone, Copy)]
 pub struct PageRun {
     pub first: u32,
     pub count: u32,
 }
 
 // What came of programming, where bits can only be cleared.
-#[derive(Drop)]
+#[derive(Clone, Copy)]
 pub enum Programmed {
     // Each byte is now as it was given.
     AsGiven,

@@ -1,5 +1,7 @@
 // What the programs read and write by: a block that standard input is read into piece by piece, and a sheet on which what goes to
 // standard output is collected.
+#![tactic(auto)]
+
 mod blocks;
 mod parts;
 mod sheets;
@@ -8,7 +10,7 @@ pub use blocks::fill;
 pub use parts::{behind, first};
 
 // What came of reading on.
-#[derive(Drop)]
+#[derive(Clone, Copy)]
 pub enum Filled {
     // The block holds so many bytes now.
     More { held: usize },
@@ -21,7 +23,7 @@ pub enum Filled {
 }
 
 // What is collected in a lent buffer: how many of its bytes, and whether a sheet could not be written out.
-#[derive(Drop)]
+#[derive(Clone, Copy)]
 pub struct Sheet {
     pub place: usize,
     pub failed: bool,

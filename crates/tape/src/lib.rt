@@ -1,4 +1,6 @@
 // The bench tape: records of any kind, and a tape of messages played on a device. Document 01, "The bench tape".
+#![tactic(auto)]
+
 mod blocks;
 mod player;
 mod records;
@@ -13,7 +15,7 @@ pub use starting::{fresh, fresh_settings};
 use tm32::Session;
 
 // What stands at the start of a tape.
-#[derive(Drop)]
+#[derive(Clone, Copy)]
 pub enum Found {
     // Nothing at all.
     Nothing,
@@ -26,7 +28,7 @@ pub enum Found {
 }
 
 // Why the player stopped.
-#[derive(Drop)]
+#[derive(Clone, Copy)]
 pub enum Stop {
     // All whole records were played, and the input does not end here.
     MoreTape,
@@ -42,7 +44,7 @@ pub enum Stop {
 
 // What playing leaves behind: the session from then on, how many bytes of the tape were used and how many of the buffer were
 // written, and why the player stopped.
-#[derive(Drop)]
+#[derive(Clone, Copy)]
 pub struct Played {
     pub session: Session,
     pub used: usize,
@@ -51,7 +53,7 @@ pub struct Played {
 }
 
 // What comes of making a device fresh.
-#[derive(Drop)]
+#[derive(Clone, Copy)]
 pub enum Begun {
     // The memory is that of a fresh device, and this is its session.
     Ready { session: Session },
@@ -60,7 +62,7 @@ pub enum Begun {
 }
 
 // What stands at the start of a tape, for the player.
-#[derive(Drop)]
+#[derive(Clone, Copy)]
 pub(crate) enum Next {
     // A message, whose body is so long.
     Message { length: u16 },
@@ -69,7 +71,7 @@ pub(crate) enum Next {
 }
 
 // Where the player stands.
-#[derive(Drop)]
+#[derive(Clone, Copy)]
 pub(crate) struct Place {
     session: Session,
     used: usize,
@@ -77,7 +79,7 @@ pub(crate) struct Place {
 }
 
 // What comes of a step.
-#[derive(Drop)]
+#[derive(Clone, Copy)]
 pub(crate) enum Step {
     On { next: Place },
     Off { last: Played },

@@ -1,4 +1,6 @@
 // The text form of bytes and of a message: a line in hex, with blanks and a comment; or a command and its data, behind a `>`, to be framed.
+#![tactic(auto)]
+
 mod lines;
 mod numbers;
 mod reader;
@@ -10,7 +12,7 @@ pub use reader::{bytes_in, digit_of};
 pub use writer::hex_of;
 
 // What a line says in hex.
-#[derive(Drop)]
+#[derive(Clone, Copy)]
 pub enum Hex {
     // So many bytes, which stand at the start of the buffer.
     Bytes { count: usize },
@@ -22,7 +24,7 @@ pub enum Hex {
 }
 
 // What a line of text is.
-#[derive(Drop)]
+#[derive(Clone, Copy)]
 pub enum Line {
     // No message: there is nothing before the comment.
     Nothing,
@@ -39,7 +41,7 @@ pub enum Line {
 }
 
 // What one to four digits say.
-#[derive(Drop)]
+#[derive(Clone, Copy)]
 pub enum Word {
     // This number.
     Value { value: u16 },
@@ -48,7 +50,7 @@ pub enum Word {
 }
 
 // What stands at a place of a line.
-#[derive(Drop)]
+#[derive(Clone, Copy)]
 pub(crate) enum Next {
     // The end of the line, or the start of its comment.
     End,

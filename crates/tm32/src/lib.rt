@@ -1,5 +1,7 @@
 // The stand-in for the TM32G07x. Document 01 is what it does; `specs/` says it again as definitions that run.
 
+#![tactic(auto)]
+
 mod device;
 mod erase;
 mod get;
@@ -21,7 +23,7 @@ pub use device::REPLY_ROOM;
 pub use tm32_asks::{FLASH_LENGTH, Link, NVR_LENGTH, RAM_LENGTH};
 
 // Where a session stands.
-#[derive(Drop)]
+#[derive(Clone, Copy)]
 pub enum State {
     // No handshake yet.
     Waiting,
@@ -32,7 +34,7 @@ pub enum State {
 }
 
 // A session, a value that each message takes and gives back. The rate is the code of PPS, and not bits per second.
-#[derive(Drop)]
+#[derive(Clone, Copy)]
 pub struct Session {
     pub state: State,
     pub link: Link,
@@ -41,7 +43,7 @@ pub struct Session {
 
 // What Get tells of the chip, and what its CRCs start from, in frames both ways and in Memory CRC. All of it is given at the start.
 // Version and serial are sent as the bytes that they are here.
-#[derive(Drop)]
+#[derive(Clone, Copy)]
 pub struct Settings {
     pub version: [u8; 2],
     pub serial: [u8; 12],
@@ -52,7 +54,7 @@ pub struct Settings {
 }
 
 // What comes of a message.
-#[derive(Drop)]
+#[derive(Clone, Copy)]
 pub enum Answer {
     // A reply of this length stands at the start of the lent buffer.
     Reply { length: usize },
@@ -61,7 +63,7 @@ pub enum Answer {
 }
 
 // What a message leaves behind: the session from then on, and the answer.
-#[derive(Drop)]
+#[derive(Clone, Copy)]
 pub struct Turn {
     pub session: Session,
     pub answer: Answer,

@@ -1,5 +1,7 @@
 // What a message asks the TM32G07x for, and whether it may: the lower half of the device. `tm32` does what is asked, and answers.
 
+#![tactic(auto)]
+
 mod checks;
 mod map;
 mod options;
@@ -16,7 +18,7 @@ pub use requests::{bytes_to_write, request_in};
 pub use results::{WORK_DONE, WRONG_ADDRESS};
 
 // What the host is connected by.
-#[derive(Drop)]
+#[derive(Clone, Copy)]
 pub enum Link {
     Uart,
     Spi,
@@ -25,7 +27,7 @@ pub enum Link {
 
 // What a Talking device reads in a message: one of the ten commands with its fields, or none. The bytes of a write and of the
 // option bytes stay in the message, beside this.
-#[derive(Drop)]
+#[derive(Clone, Copy)]
 pub enum Request {
     Pps { code: u8 },
     Get,

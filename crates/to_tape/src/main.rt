@@ -1,6 +1,8 @@
 // Text on standard input becomes a bench tape on standard output: each line's message is a record of kind 1. A line that is wrong
 // is told on standard error, and nothing behind it is read. The CRCs of its frames start from the fresh device's value, or from the
 // one that the command line gives behind `--start`.
+#![tactic(auto)]
+
 mod lines;
 mod tell;
 
@@ -8,28 +10,28 @@ use arguments::Asked;
 use stream::{Filled, Sheet};
 
 // Where the reader stands between two reads: how many bytes the block holds, and the number of the line that they start.
-#[derive(Drop)]
+#[derive(Clone, Copy)]
 pub(crate) struct Place {
     held: usize,
     number: u64,
 }
 
 // What comes of a read.
-#[derive(Drop)]
+#[derive(Clone, Copy)]
 pub(crate) enum Turn {
     On { next: Place },
     Off,
 }
 
 // What comes of some lines: how many bytes of the text were used, and the number of the line behind them.
-#[derive(Drop)]
+#[derive(Clone, Copy)]
 pub(crate) enum Passed {
     On { used: usize, number: u64 },
     Off,
 }
 
 // What comes of one line.
-#[derive(Drop)]
+#[derive(Clone, Copy)]
 pub(crate) enum Step {
     On { next: Sheet },
     Off,

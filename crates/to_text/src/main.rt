@@ -1,5 +1,7 @@
 // A bench tape on standard input becomes text on standard output, a line a record. The CRCs of its frames start from the fresh
 // device's value, or from the one that the command line gives behind `--start`.
+#![tactic(auto)]
+
 mod records;
 mod show;
 mod words;
@@ -11,14 +13,14 @@ use libc::STDERR_FILENO;
 use stream::Filled;
 
 // What comes of a read: how many bytes the block holds, or that nothing more is read.
-#[derive(Drop)]
+#[derive(Clone, Copy)]
 pub(crate) enum Turn {
     On { held: usize },
     Off,
 }
 
 // What comes of some records: how many bytes of the tape were used.
-#[derive(Drop)]
+#[derive(Clone, Copy)]
 pub(crate) enum Passed {
     On { used: usize },
     Off,
