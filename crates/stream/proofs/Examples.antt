@@ -1,5 +1,5 @@
 -- Wrong answers, worked out by the checker (docs/OUTCOMES.md says of which function). Each is told from what the contract admits, whatever the system answers, by a question that has another answer.
-use Prim.Native.Nat.{ℕ, zero, suc}
+use Prim.Native.Nat.{ℕ}
 use mathlib.Core.Bool.{Bool, true, false, false≢true, true≢false}
 use mathlib.Core.List.{List, [], ◌∷◌}
 use mathlib.Core.Logic.{◌≢◌}

@@ -4,7 +4,6 @@ ghost use Rattle.std.specs.Prelude.{◌≡◌, length};
 ghost use Rattle.stream.specs.Sheets.{Adds, AddsAll, MakesRoom, WritesOut, empty_sheet};
 
 use crate::Sheet;
-use libc::STDOUT_FILENO;
 
 impl Sheet {
     pub fn empty() -> Self
@@ -17,10 +16,10 @@ impl Sheet {
     }
 
     // One byte more.
-    pub fn byte(self, buffer: &mut [u8], value: u8) -> Self
+    pub fn byte(self, rt: &impl Print, buffer: &mut [u8], value: u8) -> Self
         ensures { Adds self buffer.old value result buffer.new }
     {
-        let sheet = self.with_room(buffer);
+        let sheet = self.with_room(rt, buffer);
         let place = sheet.place;
         if place < buffer.len() {
             buffer[place] = value;
@@ -33,41 +32,41 @@ impl Sheet {
     }
 
     // Some bytes more.
-    pub fn bytes(self, buffer: &mut [u8], values: &[u8]) -> Self
+    pub fn bytes(self, rt: &impl Print, buffer: &mut [u8], values: &[u8]) -> Self
         ensures { AddsAll self buffer.old values.now result buffer.new }
     {
         let mut sheet = self;
         let mut i = 0;
         while i < values.len() {
-            sheet = sheet.byte(buffer, values[i]);
+            sheet = sheet.byte(rt, buffer, values[i]);
             i += 1;
         }
         sheet
     }
 
     // All of it is written out.
-    pub fn written(self, buffer: &[u8]) -> Self
+    pub fn written(self, rt: &impl Print, buffer: &[u8]) -> Self
         ensures { WritesOut self result }
     {
         let place = self.place;
         if place <= buffer.len() {
-            return self.after(&buffer[..place]);
+            return self.after(rt, &buffer[..place]);
         }
-        self.after(buffer)
+        self.after(rt, buffer)
     }
 
     // A full sheet is written out.
-    fn with_room(self, buffer: &[u8]) -> Self
+    fn with_room(self, rt: &impl Print, buffer: &[u8]) -> Self
         ensures { MakesRoom (length buffer.now) self result }
     {
         let place = self.place;
         if place < buffer.len() {
             return self;
         }
-        self.after(buffer)
+        self.after(rt, buffer)
     }
 
-    fn after(self, collected: &[u8]) -> Self
+    fn after(self, rt: &impl Print, collected: &[u8]) -> Self
         ensures { WritesOut self result }
     {
         if self.failed {
@@ -75,7 +74,7 @@ impl Sheet {
         }
         Sheet {
             place: 0,
-            failed: !io::write_all(STDOUT_FILENO, collected),
+            failed: !rt.write_all(collected).is_ok(),
         }
     }
 }

@@ -2,13 +2,11 @@
 use Prim.Native.Nat.{ℕ, ◌+◌, ◌≤◌, ◌<◌}
 use mathlib.Core.List.{List}
 use mathlib.Core.Path.{◌≡◌, ap, ◌∙◌}
-use borrow.Author.Rules.{rules}
 use borrow.Author.Tests.{le-ltb, lt-ltb}
 use lib.ListN.{length, set}
 use Rattle.stream.specs.Sheets.{Adds, MakesRoom, collected, one_more, putting_on, sheet_of}
 use Rattle.stream.specs.declared.Sheet.{Sheet}
-use Rattle.stream.proofs.Sheet.byte.Statement.{statement}
-use Rattle.stream.proofs.Sheet.byte.Tie as tie
+use Rattle.stream.proofs.Sheet.byte.Goals as goal
 
 module _ {sheet roomy : Sheet} {buffer : List ℕ} {value : ℕ} (makes : MakesRoom (length buffer) sheet roomy) where
   -- a sheet with room
@@ -25,35 +23,8 @@ module _ {sheet roomy : Sheet} {buffer : List ℕ} {value : ℕ} (makes : MakesR
       let lost : collected roomy buffer ≡ putting_on roomy buffer value = simp (le-ltb _ _ full) in
       record { taken = makes.taken; same = lost ∙ ap (λ (one : Sheet). putting_on one buffer value) makes.same }
 
-with-room-requires : tie.Need-with-room-requires
-with-room-requires c κs = search rules
+pub returns-then-place-buffer : goal.returns-then-place-buffer
+returns-then-place-buffer g c = put_on c.with_room-sheet.ensures c.if-place-buffer.true
 
-slice-write-buffer : tie.Need-slice-write-buffer
-slice-write-buffer c = search rules
-
-add-t11 : tie.Need-overflow-add-t11
-add-t11 c = search rules
-
-same_length : tie.Need-same-length
-same_length c = search rules
-
-returns : tie.Need-returns
-returns c = put_on c.before.with-room.ensures c.if1.true
-
-same-length-2 : tie.Need-same-length-2
-same-length-2 c = search rules
-
-returns-2 : tie.Need-returns-2
-returns-2 c = not_put_on c.before.with-room.ensures c.if1.false
-
-pub byte-spec : {M : Type 1} → statement M
-byte-spec =
-    tie.close
-    (tie.spec
-    with-room-requires
-    slice-write-buffer
-    add-t11
-    same_length
-    returns
-    same-length-2
-    returns-2)
+pub returns : goal.returns
+returns g c = not_put_on c.with_room-sheet.ensures c.if-place-buffer.false

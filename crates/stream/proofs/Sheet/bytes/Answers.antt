@@ -1,5 +1,5 @@
 -- `stream::Sheet::bytes` meets its contract: byte for byte, in order, with one answer of the system for each.
-use Prim.Native.Nat.{ℕ, zero, suc, ◌+◌, ◌-◌, ◌≤◌, ◌<◌}
+use Prim.Native.Nat.{ℕ, ◌+◌, ◌≤◌, ◌<◌}
 use mathlib.Core.Bool.{Bool}
 use mathlib.Core.List.{List, [], ◌∷◌, ◌++◌}
 use mathlib.Core.Path.{◌≡◌, refl, sym, ap, ◌∙◌}
@@ -9,10 +9,9 @@ use native.Mathlib.Omega.{arith}
 use borrow.Author.Rules.{rules}
 use lib.ListN.{length, take, get_or, length-append}
 use lib.Seq.{take_all, take-suc}
-use Rattle.stream.specs.Sheets.{Adds, AddsAll, Collected, all_more, collected, one_more}
+use Rattle.stream.specs.Sheets.{Adds, AddsAll, Collected, all_more, one_more}
 use Rattle.stream.specs.declared.Sheet.{Sheet}
-use Rattle.stream.proofs.Sheet.bytes.Statement.{statement}
-use Rattle.stream.proofs.Sheet.bytes.Tie as tie
+use Rattle.stream.proofs.Sheet.bytes.Goals as goal
 
 -- one byte more behind some, with one answer more
 one_behind : (answers : List Bool) (taken : Bool) (sheet : Sheet) (buffer values : List ℕ) (value : ℕ) → length answers ≡ length values
@@ -48,48 +47,12 @@ module _ {sheet₀ sheet : Sheet} {buffer₀ buffer : List ℕ} (values : List �
   all_added : length values ≤ i → AddsAll sheet₀ buffer₀ values sheet buffer
   all_added none = rw (take_all i values none) at so_far
 
-abbrev invariant-loop : tie.invariant-loop
-invariant-loop buffer₀ values sheet₀ i₀ buffer sheet i = (i ≤ length values) × (length buffer ≡ length buffer₀) × AddsAll sheet₀ buffer₀ (take i values) sheet buffer
+pub loop-i-init : goal.loop-i-init
+loop-i-init g c = (search rules, search rules, none_added _ _)
 
-abbrev decreases-loop : tie.decreases-loop
-decreases-loop buffer₀ values sheet₀ i₀ buffer sheet i = length values - i
+pub loop-i-preserved : goal.loop-i-preserved
+loop-i-preserved g c =
+    (search rules, search rules, one_added _ _ c.loop-i.invariant.2 c.loop-i-test.true c.byte-sheet.ensures)
 
-loop-holds : tie.Need-loop-init invariant-loop decreases-loop
-loop-holds c = (search rules, search rules, none_added _ _)
-
-shared-slice-read-byte : tie.Need-shared-slice-read-byte invariant-loop decreases-loop
-shared-slice-read-byte c = search rules
-
-byte-requires : tie.Need-byte-requires invariant-loop decreases-loop
-byte-requires c κs = search rules
-
-add-i : tie.Need-overflow-add-i invariant-loop decreases-loop
-add-i c = search rules
-
-loop-less : tie.Need-loop-smaller invariant-loop decreases-loop
-loop-less c = search rules
-
-loop-again : tie.Need-loop-preserved invariant-loop decreases-loop
-loop-again c =
-    (search rules, search rules, one_added _ _ c.before.before.before.before.before.before.loop.invariant.2 c.before.before.before.before.before.loop-test.true c.before.before.byte.ensures)
-
-same_length : tie.Need-same-length invariant-loop decreases-loop
-same_length c = search rules
-
-returns : tie.Need-returns invariant-loop decreases-loop
-returns c = all_added _ _ c.before.loop.invariant.2 c.loop-test.false
-
-pub bytes-spec : {M : Type 1} → statement M
-bytes-spec =
-    tie.close
-    (tie.spec
-    invariant-loop
-    decreases-loop
-    loop-holds
-    shared-slice-read-byte
-    byte-requires
-    add-i
-    loop-less
-    loop-again
-    same_length
-    returns)
+pub returns : goal.returns
+returns g c = all_added _ _ c.loop-i.invariant.2 c.loop-i-test.false
