@@ -4,7 +4,7 @@ ghost use Rattle.memory.specs.Stores.{same};
 ghost use Rattle.arguments.specs.CommandLine.{Answers, start_in};
 
 use crate::{Asked, Told};
-use libc::STDERR_FILENO;
+use std::env::{Env, FillError};
 use text::Word;
 
 // The word that a start value stands behind.
@@ -12,19 +12,19 @@ const NAME: [u8; 7] = [b'-', b'-', b's', b't', b'a', b'r', b't'];
 
 // The start value that this program's command line asks for, and another where it asks for none. What is refused is told on
 // standard error. A word that is missing, or longer than the buffer that is lent for it, counts as an empty one.
-pub fn start(otherwise: u16, name: &mut [u8], value: &mut [u8]) -> Told
+pub fn start(rt: &(impl Env + Eprint), otherwise: u16, name: &mut [u8], value: &mut [u8]) -> Told
     ensures { Answers otherwise result name.new value.new }
 {
-    let count = os::arg_count();
-    let name_length = os::arg(1, name);
-    let value_length = os::arg(2, value);
+    let count = words(rt);
+    let name_length = rt.arg(1, name).unwrap_or(0);
+    let value_length = rt.arg(2, value).unwrap_or(0);
     let asked = start_in(
         otherwise,
         count,
         &name[..name_length],
         &value[..value_length],
     );
-    complain(asked);
+    complain(rt, asked);
     Told {
         count,
         name: name_length,
@@ -33,8 +33,20 @@ pub fn start(otherwise: u16, name: &mut [u8], value: &mut [u8]) -> Told
     }
 }
 
+// How many words there are on the command line, the program's own name among them. Only whether a word is there is looked at, so no
+// room is lent for it.
+fn words(rt: &impl Env) -> usize {
+    for i in 0..usize::MAX {
+        if let Err(FillError::NotPresent) = rt.arg(i, &mut []) {
+            return i;
+        }
+    }
+    usize::MAX
+}
+
 // The start value that is asked for by so many arguments, the program's own name among them, of which the second and the third
 // are these.
+#[tactic(auto, unfolding(crate::specs::CommandLine::start_in, crate::specs::CommandLine::told))]
 pub fn start_in(otherwise: u16, count: usize, name: &[u8], value: &[u8]) -> Asked
     ensures { result ≡ start_in otherwise count name.now value.now }
 {
@@ -70,20 +82,12 @@ fn equal(one: &[u8], other: &[u8]) -> bool
     true
 }
 
-fn complain(answer: Asked) {
-    match answer {
-        Asked::Start { value: _ } => {}
-        Asked::NotHex => {
-            io::write_all(
-                STDERR_FILENO,
-                b"--start: the start value is not one to four hex digits\n",
-            );
-        }
+fn complain(rt: &impl Eprint, answer: Asked) {
+    let _ = match answer {
+        Asked::Start { value: _ } => Ok(()),
+        Asked::NotHex => rt.eprintln("--start: the start value is not one to four hex digits"),
         Asked::NoSuch => {
-            io::write_all(
-                STDERR_FILENO,
-                b"the command line takes --start and a start value, and nothing else\n",
-            );
+            rt.eprintln("the command line takes --start and a start value, and nothing else")
         }
-    }
+    };
 }
