@@ -7,14 +7,14 @@ mod spoiled;
 mod tally;
 mod wire;
 
-fn main() {
-    wire::sums();
-    wire::printed([0x2D, 0x41, 0x00, 0x00, 0x55, 0x24]);
-    wire::printed([0x2D, 0x90, 0x00, 0x00, 0xF1, 0x76]);
-    wire::printed([0x2D, 0x80, 0x00, 0x00, 0x92, 0x35]);
-    wire::other_start();
-    wire::with_data();
-    wire::rooms();
-    wire::longest();
-    wire::too_long();
+fn main(rt: HostRuntime) {
+    wire::sums(&rt);
+    wire::printed(&rt, [0x2D, 0x41, 0x00, 0x00, 0x55, 0x24]);
+    wire::printed(&rt, [0x2D, 0x90, 0x00, 0x00, 0xF1, 0x76]);
+    wire::printed(&rt, [0x2D, 0x80, 0x00, 0x00, 0x92, 0x35]);
+    wire::other_start(&rt);
+    wire::with_data(&rt);
+    wire::rooms(&rt);
+    wire::longest(&rt);
+    wire::too_long(&rt);
 }

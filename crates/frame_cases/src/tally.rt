@@ -48,27 +48,27 @@ impl Tally {
     }
 
     // A line of it, behind the case in words: each count that is not nought.
-    pub(crate) fn shown(self, words: &[u8]) {
-        show::text(b"  ");
-        self.counts(words);
+    pub(crate) fn shown(self, rt: &impl Print, words: &[u8]) {
+        show::text(rt, b"  ");
+        self.counts(rt, words);
     }
 
     // The rest of such a line, behind the last of the words.
-    pub(crate) fn counts(self, words: &[u8]) {
-        show::text(words);
-        counted(self.sound, b" sound");
-        counted(self.at_head, b" spoiled at 0");
-        counted(self.at_length, b" spoiled at 2");
-        counted(self.at_crc, b" spoiled at the CRC");
-        counted(self.elsewhere, b" spoiled elsewhere");
-        show::text(b"\n");
+    pub(crate) fn counts(self, rt: &impl Print, words: &[u8]) {
+        show::text(rt, words);
+        counted(rt, self.sound, b" sound");
+        counted(rt, self.at_head, b" spoiled at 0");
+        counted(rt, self.at_length, b" spoiled at 2");
+        counted(rt, self.at_crc, b" spoiled at the CRC");
+        counted(rt, self.elsewhere, b" spoiled elsewhere");
+        show::text(rt, b"\n");
     }
 }
 
-fn counted(count: u64, words: &[u8]) {
+fn counted(rt: &impl Print, count: u64, words: &[u8]) {
     if 0 < count {
-        show::text(b"; ");
-        show::number(count);
-        show::text(words);
+        show::text(rt, b"; ");
+        show::number(rt, count);
+        show::text(rt, words);
     }
 }
