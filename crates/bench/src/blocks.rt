@@ -1,5 +1,5 @@
-// The memory that is lent to the device. Whoever calls these knows the length and nothing of the bytes, which keeps the proofs
-// short.
+// What is lent: the device's memory, and the blocks for the tape and for the replies. Whoever calls these knows the length and nothing
+// of the bytes, which keeps the proofs short.
 ghost use Rattle.std.specs.Prelude.{◌≡◌, length};
 ghost use Rattle.tm32_asks.specs.Map.{flash_length, nvr_length, ram_length};
 
@@ -21,4 +21,11 @@ pub(crate) fn nvr() -> [u8; NVR_LENGTH as usize]
     ensures { nvr_length ≡ length result }
 {
     [0; NVR_LENGTH as usize]
+}
+
+// For what is read of the tape, and for the replies to it.
+pub(crate) fn block() -> [u8; 65536]
+    ensures { 65536 ≡ length result }
+{
+    [0; 65536]
 }

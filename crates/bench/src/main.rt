@@ -8,22 +8,23 @@ mod shell;
 use arguments::Asked;
 use tm32::Settings;
 
-fn main() {
+fn main(rt: HostRuntime) {
     let fresh = tape::fresh_settings();
-    let told = arguments::start(fresh.start, &mut [0; 8], &mut [0; 8]);
+    let told = arguments::start(&rt, fresh.start, &mut [0; 8], &mut [0; 8]);
     let asked = told.asked;
     if let Asked::Start { value } = asked {
-        play(fresh.starting_from(value));
+        play(&rt, fresh.starting_from(value));
     }
 }
 
-fn play(settings: Settings) {
+fn play(rt: &(impl Input + Print + Eprint), settings: Settings) {
     let mut flash = blocks::flash();
     let mut ram = blocks::ram();
     let mut nvr = blocks::nvr();
-    let mut block = io::large_buffer();
-    let mut replies = io::large_buffer();
+    let mut block = blocks::block();
+    let mut replies = blocks::block();
     shell::run(
+        rt,
         settings,
         &mut flash,
         &mut ram,

@@ -1,7 +1,6 @@
 // A thin shell over the player: it reads the tape in blocks, has each block played, and writes the records that come of it.
 ghost use Rattle.std.specs.Prelude.{◌+◌, ◌-◌, ◌≤◌, ◌<◌, ◌≡◌, length};
 
-use libc::{STDERR_FILENO, STDOUT_FILENO};
 use stream::Filled;
 use tape::{Begun, Played, Stop};
 use tm32::{Session, Settings};
@@ -19,6 +18,7 @@ pub(crate) struct Bench {
 
 // Plays all of standard input on a fresh device with some settings.
 pub(crate) fn run(
+    rt: &(impl Input + Print + Eprint),
     settings: Settings,
     flash: &mut [u8],
     ram: &mut [u8],
@@ -29,9 +29,12 @@ pub(crate) fn run(
     requires { 4096 ≤ length block.old }
 {
     match tape::fresh(flash, ram, nvr) {
-        Begun::Ready { session } => play_all(session, settings, flash, ram, nvr, block, replies),
+        Begun::Ready { session } => play_all(
+            rt, session, settings, flash, ram, nvr, block, replies,
+        ),
         Begun::Refused { number: _ } => complain(
-            b"bench: the device's memory has another length\n",
+            rt,
+            "bench: the device's memory has another length",
         ),
     }
 }
@@ -39,6 +42,7 @@ pub(crate) fn run(
 // Turn after turn, until there is nothing left to do. A loop has to end, and nothing says that the input does: so the turns are
 // counted down, from a number that no run uses up.
 fn play_all(
+    rt: &(impl Input + Print + Eprint),
     session: Session,
     settings: Settings,
     flash: &mut [u8],
@@ -59,7 +63,7 @@ fn play_all(
     let mut turns = u64::MAX;
     while turns > 0 {
         turns -= 1;
-        bench = turn(bench, settings, flash, ram, nvr, block, replies);
+        bench = turn(rt, bench, settings, flash, ram, nvr, block, replies);
         if !bench.on {
             return;
         }
@@ -68,6 +72,7 @@ fn play_all(
 
 // Plays what is held of the tape, writes what came of it, and sees to what the player asks for.
 fn turn(
+    rt: &(impl Input + Print + Eprint),
     bench: Bench,
     settings: Settings,
     flash: &mut [u8],
@@ -93,23 +98,23 @@ fn turn(
         replies,
     );
     let written = played.written;
-    if !put_out(&replies[..written]) {
+    if !put_out(rt, &replies[..written]) {
         return off(bench);
     }
-    after(bench, played, block)
+    after(rt, bench, played, block)
 }
 
 // Writes records, or says that they cannot be written.
-fn put_out(records: &[u8]) -> bool {
-    if io::write_all(STDOUT_FILENO, records) {
+fn put_out(rt: &(impl Print + Eprint), records: &[u8]) -> bool {
+    if rt.write_all(records).is_ok() {
         return true;
     }
-    complain(b"bench: the replies cannot be written\n");
+    complain(rt, "bench: the replies cannot be written");
     false
 }
 
 // Sees to what the player asks for.
-fn after(bench: Bench, played: Played, block: &mut [u8]) -> Bench
+fn after(rt: &(impl Input + Eprint), bench: Bench, played: Played, block: &mut [u8]) -> Bench
     requires used_bound { (bench.from + played.used ≤ bench.held) × (bench.held ≤ length block.old) }
     requires used_in_bounds { played.stop ≡ Stop.MoreTape → bench.held - (bench.from + played.used) < length block.old }
     ensures { (result.from ≤ result.held) × (result.held ≤ length block.new) }
@@ -126,23 +131,29 @@ fn after(bench: Bench, played: Played, block: &mut [u8]) -> Bench
             ends: bench.ends,
             on: true,
         },
-        Stop::MoreTape => more(session, from, held, block),
+        Stop::MoreTape => more(rt, session, from, held, block),
         Stop::End => off(bench),
         Stop::Error { number: _ } => off(bench),
         Stop::Refused { number: _ } => {
-            complain(b"bench: the device does not answer\n");
+            complain(rt, "bench: the device does not answer");
             off(bench)
         }
     }
 }
 
 // Keeps what was not played, and reads behind it. A read that fails is no end of the tape.
-fn more(session: Session, from: usize, held: usize, block: &mut [u8]) -> Bench
+fn more(
+    rt: &(impl Input + Eprint),
+    session: Session,
+    from: usize,
+    held: usize,
+    block: &mut [u8],
+) -> Bench
     requires { (from ≤ held) × (held ≤ length block.old) × (held - from < length block.old) }
     ensures { (result.from ≤ result.held) × (result.held ≤ length block.new) }
 {
     let rest = tape::keep_rest(block, from, held);
-    match stream::fill(block, rest) {
+    match stream::fill(rt, block, rest) {
         Filled::More { held: now } => Bench {
             session,
             from: 0,
@@ -157,17 +168,17 @@ fn more(session: Session, from: usize, held: usize, block: &mut [u8]) -> Bench
             ends: true,
             on: true,
         },
-        Filled::Failed => lost(session, b"bench: the tape cannot be read\n"),
+        Filled::Failed => lost(rt, session, "bench: the tape cannot be read"),
         // Never: what is held leaves room in the block.
-        Filled::Full => lost(session, b"bench: the tape cannot be held\n"),
+        Filled::Full => lost(rt, session, "bench: the tape cannot be held"),
     }
 }
 
 // Nothing is left to do with a tape that is lost.
-fn lost(session: Session, words: &[u8]) -> Bench
+fn lost(rt: &impl Eprint, session: Session, words: &str) -> Bench
     ensures { (result.from ≡ 0) × (result.held ≡ 0) }
 {
-    complain(words);
+    complain(rt, words);
     Bench {
         session,
         from: 0,
@@ -191,6 +202,6 @@ fn off(bench: Bench) -> Bench
     }
 }
 
-fn complain(words: &[u8]) {
-    io::write_all(STDERR_FILENO, words);
+fn complain(rt: &impl Eprint, words: &str) {
+    let _ = rt.eprintln(words);
 }

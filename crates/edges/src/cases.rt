@@ -3,6 +3,7 @@ ghost use Rattle.std.specs.Prelude.{◌≤◌};
 
 use crate::bench::{BUFFER_ROOM, Bench, FLASH_ROOM, NVR_ROOM, RAM_ROOM};
 use crate::lines::Line;
+use crate::scan::find;
 use crate::{lines, report};
 use tape::Begun;
 use tm32::{Session, Settings};
@@ -12,6 +13,7 @@ const UNTOUCHED: u8 = 0xEE;
 
 // All lines of a text.
 pub(crate) fn run(
+    rt: &impl Print,
     text: &[u8],
     flash: &mut [u8; FLASH_ROOM],
     ram: &mut [u8; RAM_ROOM],
@@ -21,16 +23,17 @@ pub(crate) fn run(
     let mut bench = Bench::new(false);
     let mut at = 0;
     while at < text.len() {
-        let end = bytes::scan::find(text, at, text.len(), b'\n');
+        let end = find(text, at, b'\n');
         let next = end + 1;
-        bench = obeyed(bench, &text[at..end], flash, ram, nvr, buffer);
+        bench = obeyed(rt, bench, &text[at..end], flash, ram, nvr, buffer);
         at = next;
     }
-    report::end_line(bench.open);
+    report::end_line(rt, bench.open);
 }
 
 // One line: what it sets up, then its message or its question.
 fn obeyed(
+    rt: &impl Print,
     bench: Bench,
     text: &[u8],
     flash: &mut [u8; FLASH_ROOM],
@@ -38,15 +41,25 @@ fn obeyed(
     nvr: &mut [u8; NVR_ROOM],
     buffer: &mut [u8; BUFFER_ROOM],
 ) -> Bench {
-    let mut room = io::buffer();
+    let mut room = [0; lines::ROOM];
     let line = lines::line_in(bench.start, text, &mut room);
-    report::words(bench.open, line.kind, text);
+    report::words(rt, bench.open, line.kind, text);
     let message = stream::first(&room, line.length);
-    step(bench.set_up(line), line, message, flash, ram, nvr, buffer)
+    step(
+        rt,
+        bench.set_up(line),
+        line,
+        message,
+        flash,
+        ram,
+        nvr,
+        buffer,
+    )
 }
 
 // A line that sends a message, or that asks to see something.
 fn step(
+    rt: &impl Print,
     bench: Bench,
     line: Line,
     message: &[u8],
@@ -67,10 +80,10 @@ fn step(
             nvr,
             buffer,
         );
-        return report::sent(next, line, message, buffer);
+        return report::sent(rt, next, line, message, buffer);
     }
     let shown = report::part_of(flash, ram, nvr, line.address, line.count);
-    report::asked(bench, line, shown, buffer)
+    report::asked(rt, bench, line, shown, buffer)
 }
 
 // After a message for which as much is lent as the bench says, and no more than there is.

@@ -1,4 +1,5 @@
 // Numbers and bytes as they are written in the lines: bytes as 01 prints them, `2D 41`, and many of one byte as `FF*1024`.
+use crate::scan::find;
 
 // What a line's bytes came to.
 #[derive(Clone, Copy)]
@@ -14,7 +15,7 @@ pub(crate) fn bytes_in(text: &[u8], room: &mut [u8]) -> Bytes {
     let mut told = Bytes::Told { count: 0 };
     let mut at = 0;
     while at < text.len() {
-        let end = bytes::scan::find(text, at, text.len(), b' ');
+        let end = find(text, at, b' ');
         let next = end + 1;
         told = with_word(told, &text[at..end], room);
         at = next;

@@ -1,4 +1,5 @@
 // Standard input, read whole.
+use std::io;
 use stream::Filled;
 
 #[derive(Clone, Copy)]
@@ -11,10 +12,10 @@ pub(crate) enum Input {
     Failed,
 }
 
-pub(crate) fn read_all(block: &mut [u8]) -> Input {
+pub(crate) fn read_all(rt: &impl io::Input, block: &mut [u8]) -> Input {
     let mut length = 0;
     loop {
-        match stream::fill(block, length) {
+        match stream::fill(rt, block, length) {
             Filled::More { held } => length = held,
             Filled::End => return Input::Whole { length },
             Filled::Full => return Input::TooLong,

@@ -1,6 +1,7 @@
 // What a line of the cases says. The first lines of the file `stdin` tell how they are written.
 use crate::hex;
 use crate::hex::Bytes;
+use crate::scan::find;
 use frame::Written;
 
 // What a line is, by its first character.
@@ -22,6 +23,9 @@ pub(crate) const REMARK: u8 = b'#';
 
 pub(crate) const WRONG: u8 = b'X';
 
+// How long a message may be, and so what stands for it on a line.
+pub(crate) const ROOM: usize = 4096;
+
 #[derive(Clone, Copy)]
 pub(crate) struct Line {
     pub kind: u8,
@@ -41,7 +45,7 @@ pub(crate) struct Line {
 pub(crate) fn line_in(start: u16, text: &[u8], room: &mut [u8]) -> Line {
     let kind = letter_at(text, 0);
     let body = stream::behind(text, 2);
-    let gap = bytes::scan::find(body, 0, body.len(), b' ');
+    let gap = find(body, 0, b' ');
     let first = &body[0..gap];
     let second = &body[gap..];
     let line = Line {
@@ -107,7 +111,7 @@ fn message_in(start: u16, kind: u8, body: &[u8], room: &mut [u8]) -> Bytes {
 }
 
 fn framed_in(start: u16, body: &[u8], room: &mut [u8]) -> Bytes {
-    let mut told = io::buffer();
+    let mut told = [0; ROOM];
     match hex::bytes_in(body, &mut told) {
         Bytes::Told { count } => framed(start, stream::first(&told, count), room),
         Bytes::Wrong => Bytes::Wrong,

@@ -8,6 +8,7 @@ mod hex;
 mod input;
 mod lines;
 mod report;
+mod scan;
 mod show;
 
 ghost use Rattle.std.specs.Prelude.{◌≡◌, ◌+◌, length};
@@ -17,20 +18,34 @@ ghost use Rattle.tm32_asks.specs.Map.{flash_length, nvr_length, ram_length};
 use bench::{BUFFER_ROOM, FLASH_ROOM, NVR_ROOM, RAM_ROOM};
 use input::Input;
 
-fn main() {
-    let mut block = io::large_buffer();
-    match input::read_all(&mut block) {
-        Input::Whole { length } => on_memory(stream::first(&block, length)),
-        Input::TooLong => show::text(b"There are too many cases.\n"),
-        Input::Failed => show::text(b"The cases could not be read.\n"),
+fn main(rt: HostRuntime) {
+    let mut block = block();
+    match input::read_all(&rt, &mut block) {
+        Input::Whole { length } => on_memory(&rt, stream::first(&block, length)),
+        Input::TooLong => show::text(&rt, b"There are too many cases.\n"),
+        Input::Failed => show::text(&rt, b"The cases could not be read.\n"),
     }
 }
 
-fn on_memory(text: &[u8]) {
-    cases::run(text, &mut flash(), &mut ram(), &mut nvr(), &mut buffer());
+fn on_memory(rt: &impl Print, text: &[u8]) {
+    cases::run(
+        rt,
+        text,
+        &mut flash(),
+        &mut ram(),
+        &mut nvr(),
+        &mut buffer(),
+    );
 }
 
-// What is lent to the device. Whoever calls these knows the length and nothing of the bytes, which keeps the proofs short.
+// What is lent: a block that the cases are read into, and the device's memory. Whoever calls these knows the length and nothing of the
+// bytes, which keeps the proofs short.
+fn block() -> [u8; 65536]
+    ensures { 65536 ≡ length result }
+{
+    [0; 65536]
+}
+
 fn flash() -> [u8; FLASH_ROOM]
     ensures { flash_length + 1 ≡ length result }
 {

@@ -5,75 +5,87 @@ use crate::{lines, show};
 use tm32::{Link, Session, State};
 
 // A heading, a case in words, or a line that is not understood: each on a new line.
-pub(crate) fn words(open: bool, kind: u8, text: &[u8]) {
+pub(crate) fn words(rt: &impl Print, open: bool, kind: u8, text: &[u8]) {
     match kind {
-        lines::HEADING => new_line(open, text, b"\n"),
-        lines::CASE => new_line(open, stream::behind(text, 2), b":"),
-        lines::WRONG => new_line(open, text, b" is not understood.\n"),
+        lines::HEADING => new_line(rt, open, text, b"\n"),
+        lines::CASE => new_line(rt, open, stream::behind(text, 2), b":"),
+        lines::WRONG => new_line(rt, open, text, b" is not understood.\n"),
         _ => {}
     }
 }
 
-fn new_line(open: bool, text: &[u8], end: &[u8]) {
-    end_line(open);
-    show::text(text);
-    show::text(end);
+fn new_line(rt: &impl Print, open: bool, text: &[u8], end: &[u8]) {
+    end_line(rt, open);
+    show::text(rt, text);
+    show::text(rt, end);
 }
 
-pub(crate) fn end_line(open: bool) {
+pub(crate) fn end_line(rt: &impl Print, open: bool) {
     if open {
-        show::text(b"\n");
+        show::text(rt, b"\n");
     }
 }
 
 // A message and what came of it. A line that only prepares says nothing where all went well.
-pub(crate) fn sent(bench: Bench, line: Line, message: &[u8], buffer: &[u8]) -> Bench {
+pub(crate) fn sent(
+    rt: &impl Print,
+    bench: Bench,
+    line: Line,
+    message: &[u8],
+    buffer: &[u8],
+) -> Bench {
     if line.is_preparing() {
         if bench.is_done(buffer) {
             return bench;
         }
     }
-    lead(bench.open);
-    show::runs(message);
-    show::text(b" -> ");
+    lead(rt, bench.open);
+    show::runs(rt, message);
+    show::text(rt, b" -> ");
     if 0 < bench.refusal {
-        show::text(b"no reply, refusal ");
-        show::number(bench.refusal as u64);
+        show::text(rt, b"no reply, refusal ");
+        show::number(rt, bench.refusal as u64);
     } else {
-        show::runs(stream::first(buffer, bench.length));
+        show::runs(rt, stream::first(buffer, bench.length));
     }
-    show::text(b"\n");
+    show::text(rt, b"\n");
     bench.closed()
 }
 
 // What a line asks to see: the session, the reply buffer, or memory.
-pub(crate) fn asked(bench: Bench, line: Line, shown: &[u8], buffer: &[u8]) -> Bench {
+pub(crate) fn asked(
+    rt: &impl Print,
+    bench: Bench,
+    line: Line,
+    shown: &[u8],
+    buffer: &[u8],
+) -> Bench {
     if line.kind != lines::QUESTION {
         return bench;
     }
-    lead(bench.open);
+    lead(rt, bench.open);
     let name = line.name;
     match name {
-        b's' => session_line(bench.session),
+        b's' => session_line(rt, bench.session),
         b'b' => {
-            show::text(b"buffer: ");
-            show::runs(buffer);
+            show::text(rt, b"buffer: ");
+            show::runs(rt, buffer);
         }
         _ => {
-            show::long(line.address);
-            show::text(b": ");
-            show::runs(shown);
+            show::long(rt, line.address);
+            show::text(rt, b": ");
+            show::runs(rt, shown);
         }
     }
-    show::text(b"\n");
+    show::text(rt, b"\n");
     bench.closed()
 }
 
 // It stands behind the words of the case, or on a line of its own.
-fn lead(open: bool) {
-    show::text(b" ");
+fn lead(rt: &impl Print, open: bool) {
+    show::text(rt, b" ");
     if !open {
-        show::text(b" ");
+        show::text(rt, b" ");
     }
 }
 
@@ -105,28 +117,28 @@ fn part(memory: &[u8], place: usize, count: usize) -> &[u8] {
     stream::first(rest, count)
 }
 
-fn session_line(session: Session) {
+fn session_line(rt: &impl Print, session: Session) {
     let state = session.state;
     let link = session.link;
-    state_words(state);
+    state_words(rt, state);
     match link {
-        Link::Uart => show::text(b" on UART, code "),
-        Link::Spi => show::text(b" on SPI, code "),
-        Link::I2c => show::text(b" on I2C, code "),
+        Link::Uart => show::text(rt, b" on UART, code "),
+        Link::Spi => show::text(rt, b" on SPI, code "),
+        Link::I2c => show::text(rt, b" on I2C, code "),
     }
-    show::byte(session.rate);
-    show::text(b", ");
-    show::number(session.bits_per_second() as u64);
-    show::text(b" bits per second");
+    show::byte(rt, session.rate);
+    show::text(rt, b", ");
+    show::number(rt, session.bits_per_second() as u64);
+    show::text(rt, b" bits per second");
 }
 
-fn state_words(state: State) {
+fn state_words(rt: &impl Print, state: State) {
     match state {
-        State::Waiting => show::text(b"Waiting"),
-        State::Talking => show::text(b"Talking"),
+        State::Waiting => show::text(rt, b"Waiting"),
+        State::Talking => show::text(rt, b"Talking"),
         State::Gone { address } => {
-            show::text(b"Gone to ");
-            show::long(address);
+            show::text(rt, b"Gone to ");
+            show::long(rt, address);
         }
     }
 }

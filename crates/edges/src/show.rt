@@ -1,52 +1,50 @@
 // Words, numbers and bytes on standard output.
 ghost use Rattle.std.specs.Prelude.{◌+◌, ◌<◌, ◌≤◌, length};
 
-use libc::STDOUT_FILENO;
-
-pub(crate) fn text(words: &[u8]) {
-    io::write_all(STDOUT_FILENO, words);
+pub(crate) fn text(rt: &impl Print, words: &[u8]) {
+    let _ = rt.write_all(words);
 }
 
-pub(crate) fn number(value: u64) {
-    io::print_decimal(STDOUT_FILENO, value);
+pub(crate) fn number(rt: &impl Print, value: u64) {
+    let _ = rt.print(value);
 }
 
 // A byte as two digits of 01's hexadecimal.
-pub(crate) fn byte(value: u8) {
-    text(&text::hex_of(value));
+pub(crate) fn byte(rt: &impl Print, value: u8) {
+    text(rt, &text::hex_of(value));
 }
 
 // A number of 16 bits as four digits.
-pub(crate) fn word(value: u16) {
-    byte((value / 256) as u8);
-    byte((value % 256) as u8);
+pub(crate) fn word(rt: &impl Print, value: u16) {
+    byte(rt, (value / 256) as u8);
+    byte(rt, (value % 256) as u8);
 }
 
 // A number of 32 bits as eight digits.
-pub(crate) fn long(value: u32) {
-    word((value / 65536) as u16);
-    word((value % 65536) as u16);
+pub(crate) fn long(rt: &impl Print, value: u32) {
+    word(rt, (value / 65536) as u16);
+    word(rt, (value % 65536) as u16);
 }
 
 // Bytes as 01 prints them, and more than sixteen of one value as `FF*1024`.
-pub(crate) fn runs(list: &[u8]) {
+pub(crate) fn runs(rt: &impl Print, list: &[u8]) {
     if list.len() == 0 {
-        text(b"none");
+        text(rt, b"none");
         return;
     }
     let mut i = 0;
     while i < list.len() {
         let count = run_at(list, i);
-        byte_at(i, list[i]);
-        times(count);
+        byte_at(rt, i, list[i]);
+        times(rt, count);
         i += count;
     }
 }
 
-fn times(count: usize) {
+fn times(rt: &impl Print, count: usize) {
     if 1 < count {
-        text(b"*");
-        number(count as u64);
+        text(rt, b"*");
+        number(rt, count as u64);
     }
 }
 
@@ -77,9 +75,9 @@ fn end_of_run(list: &[u8], place: usize) -> usize
     end
 }
 
-fn byte_at(place: usize, value: u8) {
+fn byte_at(rt: &impl Print, place: usize, value: u8) {
     if 0 < place {
-        text(b" ");
+        text(rt, b" ");
     }
-    byte(value);
+    byte(rt, value);
 }

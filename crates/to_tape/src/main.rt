@@ -9,6 +9,9 @@ mod tell;
 use arguments::Asked;
 use stream::{Filled, Sheet};
 
+// How many bytes each of the blocks has that are lent: one more than the longest line may have.
+const ROOM: usize = 65536;
+
 // Where the reader stands between two reads: how many bytes the block holds, and the number of the line that they start.
 #[derive(Clone, Copy)]
 pub(crate) struct Place {
@@ -37,29 +40,43 @@ pub(crate) enum Step {
     Off,
 }
 
-fn main() {
+fn main(rt: HostRuntime) {
     let fresh = tape::fresh_settings();
-    let told = arguments::start(fresh.start, &mut [0; 8], &mut [0; 8]);
+    let told = arguments::start(&rt, fresh.start, &mut [0; 8], &mut [0; 8]);
     let asked = told.asked;
     if let Asked::Start { value } = asked {
-        on_blocks(value);
+        on_blocks(&rt, value);
     }
 }
 
-fn on_blocks(start: u16) {
-    let mut block = io::large_buffer();
-    let mut scratch = io::large_buffer();
-    let mut message = io::large_buffer();
-    let mut paper = io::large_buffer();
-    run(start, &mut block, &mut scratch, &mut message, &mut paper);
+fn on_blocks(rt: &(impl Input + Print + Eprint), start: u16) {
+    let mut block = [0; ROOM];
+    let mut scratch = [0; ROOM];
+    let mut message = [0; ROOM];
+    let mut paper = [0; ROOM];
+    run(
+        rt,
+        start,
+        &mut block,
+        &mut scratch,
+        &mut message,
+        &mut paper,
+    );
 }
 
 // A proved loop has to end, and nothing says that the input does: the turns count down from a number that no run uses up.
-fn run(start: u16, block: &mut [u8], scratch: &mut [u8], message: &mut [u8], paper: &mut [u8]) {
+fn run(
+    rt: &(impl Input + Print + Eprint),
+    start: u16,
+    block: &mut [u8],
+    scratch: &mut [u8],
+    message: &mut [u8],
+    paper: &mut [u8],
+) {
     let mut place = Place { held: 0, number: 1 };
     let mut turns = u64::MAX;
     while 0 < turns {
-        match read_on(start, place, block, scratch, message, paper) {
+        match read_on(rt, start, place, block, scratch, message, paper) {
             Turn::On { next } => {
                 place = next;
             }
@@ -71,6 +88,7 @@ fn run(start: u16, block: &mut [u8], scratch: &mut [u8], message: &mut [u8], pap
 
 // One read, and the lines that it brings.
 fn read_on(
+    rt: &(impl Input + Print + Eprint),
     start: u16,
     place: Place,
     block: &mut [u8],
@@ -79,9 +97,10 @@ fn read_on(
     paper: &mut [u8],
 ) -> Turn {
     let before = place.held;
-    match stream::fill(block, before) {
+    match stream::fill(rt, block, before) {
         Filled::More { held } => {
             match lines::whole(
+                rt,
                 start,
                 stream::first(block, held),
                 place.number,
@@ -95,6 +114,7 @@ fn read_on(
         }
         Filled::End => {
             lines::last(
+                rt,
                 start,
                 stream::first(block, before),
                 place.number,
@@ -105,11 +125,11 @@ fn read_on(
             Turn::Off
         }
         Filled::Full => {
-            tell::line(place.number, b": more than 65,535 characters\n");
+            tell::line(rt, place.number, "more than 65,535 characters");
             Turn::Off
         }
         Filled::Failed => {
-            tell::words(b"the text cannot be read\n");
+            tell::words(rt, "the text cannot be read");
             Turn::Off
         }
     }

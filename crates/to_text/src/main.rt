@@ -9,7 +9,6 @@ mod words;
 ghost use Rattle.std.specs.Prelude.{◌≡◌, length};
 
 use arguments::Asked;
-use libc::STDERR_FILENO;
 use stream::Filled;
 
 // What comes of a read: how many bytes the block holds, or that nothing more is read.
@@ -26,19 +25,19 @@ pub(crate) enum Passed {
     Off,
 }
 
-fn main() {
+fn main(rt: HostRuntime) {
     let fresh = tape::fresh_settings();
-    let told = arguments::start(fresh.start, &mut [0; 8], &mut [0; 8]);
+    let told = arguments::start(&rt, fresh.start, &mut [0; 8], &mut [0; 8]);
     let asked = told.asked;
     if let Asked::Start { value } = asked {
-        on_block(value);
+        on_block(&rt, value);
     }
 }
 
-fn on_block(start: u16) {
+fn on_block(rt: &(impl Input + Print + Eprint), start: u16) {
     let mut block = block();
-    let mut paper = io::large_buffer();
-    run(start, &mut block, &mut paper);
+    let mut paper = [0; 65536];
+    run(rt, start, &mut block, &mut paper);
 }
 
 // Room for the longest record and as much again. Whoever calls this knows the length and nothing of the bytes, which keeps the
@@ -50,11 +49,11 @@ fn block() -> [u8; 131072]
 }
 
 // A proved loop has to end, and nothing says that the input does: the turns count down from a number that no run uses up.
-fn run(start: u16, block: &mut [u8], paper: &mut [u8]) {
+fn run(rt: &(impl Input + Print + Eprint), start: u16, block: &mut [u8], paper: &mut [u8]) {
     let mut held = 0;
     let mut turns = u64::MAX;
     while 0 < turns {
-        match read_on(start, held, block, paper) {
+        match read_on(rt, start, held, block, paper) {
             Turn::On { held: next } => {
                 held = next;
             }
@@ -65,24 +64,35 @@ fn run(start: u16, block: &mut [u8], paper: &mut [u8]) {
 }
 
 // One read, and the records that it brings.
-fn read_on(start: u16, before: usize, block: &mut [u8], paper: &mut [u8]) -> Turn {
-    match stream::fill(block, before) {
-        Filled::More { held } => match records::whole(start, stream::first(block, held), paper) {
+fn read_on(
+    rt: &(impl Input + Print + Eprint),
+    start: u16,
+    before: usize,
+    block: &mut [u8],
+    paper: &mut [u8],
+) -> Turn {
+    match stream::fill(rt, block, before) {
+        Filled::More { held } => match records::whole(
+            rt,
+            start,
+            stream::first(block, held),
+            paper,
+        ) {
             Passed::On { used } => Turn::On {
                 held: tape::keep_rest(block, used, held),
             },
             Passed::Off => Turn::Off,
         },
         Filled::End => {
-            records::end(stream::first(block, before), paper);
+            records::end(rt, stream::first(block, before), paper);
             Turn::Off
         }
-        Filled::Full => told(b"a record is longer than the block\n"),
-        Filled::Failed => told(b"the tape cannot be read\n"),
+        Filled::Full => told(rt, "a record is longer than the block"),
+        Filled::Failed => told(rt, "the tape cannot be read"),
     }
 }
 
-fn told(what: &[u8]) -> Turn {
-    io::write_all(STDERR_FILENO, what);
+fn told(rt: &impl Eprint, what: &str) -> Turn {
+    let _ = rt.eprintln(what);
     Turn::Off
 }

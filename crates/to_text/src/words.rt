@@ -2,7 +2,7 @@
 use stream::Sheet;
 
 // The command of a sound frame.
-pub(crate) fn command(sheet: Sheet, paper: &mut [u8], code: u8) -> Sheet {
+pub(crate) fn command(rt: &impl Print, sheet: Sheet, paper: &mut [u8], code: u8) -> Sheet {
     let table = b"00 PPS\n\
                   01 Get\n\
                   11 Read\n\
@@ -14,6 +14,7 @@ pub(crate) fn command(sheet: Sheet, paper: &mut [u8], code: u8) -> Sheet {
                   32 Read options\n\
                   41 Heart beat\n";
     looked_up(
+        rt,
         sheet,
         paper,
         table,
@@ -23,7 +24,7 @@ pub(crate) fn command(sheet: Sheet, paper: &mut [u8], code: u8) -> Sheet {
 }
 
 // The result of a sound frame.
-pub(crate) fn result(sheet: Sheet, paper: &mut [u8], code: u8) -> Sheet {
+pub(crate) fn result(rt: &impl Print, sheet: Sheet, paper: &mut [u8], code: u8) -> Sheet {
     let table = b"61 a touched page is write protected\n\
                   62 read protection is on\n\
                   63 a touched page is under PCROP\n\
@@ -38,6 +39,7 @@ pub(crate) fn result(sheet: Sheet, paper: &mut [u8], code: u8) -> Sheet {
                   F4 the CRC that was sent is not that of the memory\n\
                   F5 not possible on this link\n";
     looked_up(
+        rt,
         sheet,
         paper,
         table,
@@ -47,11 +49,12 @@ pub(crate) fn result(sheet: Sheet, paper: &mut [u8], code: u8) -> Sheet {
 }
 
 // The player's word that the tape is wrong.
-pub(crate) fn error(sheet: Sheet, paper: &mut [u8], number: u8) -> Sheet {
+pub(crate) fn error(rt: &impl Print, sheet: Sheet, paper: &mut [u8], number: u8) -> Sheet {
     let table = b"01 the tape is cut short\n\
                   02 a record of unknown kind\n\
                   03 a body above 2,048 bytes\n";
     looked_up(
+        rt,
         sheet,
         paper,
         table,
@@ -62,19 +65,26 @@ pub(crate) fn error(sheet: Sheet, paper: &mut [u8], number: u8) -> Sheet {
 
 // The words that a table has for a code, or else other words. A line of the table is the code in two digits, a space, and the
 // words.
-fn looked_up(sheet: Sheet, paper: &mut [u8], table: &[u8], code: u8, other: &[u8]) -> Sheet {
+fn looked_up(
+    rt: &impl Print,
+    sheet: Sheet,
+    paper: &mut [u8],
+    table: &[u8],
+    code: u8,
+    other: &[u8],
+) -> Sheet {
     let mut start = 0;
     while start < table.len() {
         let end = text::line_end(table, start);
         if table.len() <= end {
-            return sheet.bytes(paper, other);
+            return sheet.bytes(rt, paper, other);
         }
         if is_for(&table[start..end], code) {
-            return entry(sheet, paper, &table[start..end]);
+            return entry(rt, sheet, paper, &table[start..end]);
         }
         start = end + 1;
     }
-    sheet.bytes(paper, other)
+    sheet.bytes(rt, paper, other)
 }
 
 // Whether a line of a table is that of a code.
@@ -90,9 +100,9 @@ fn is_for(line: &[u8], code: u8) -> bool {
 }
 
 // The words of a line of a table.
-fn entry(sheet: Sheet, paper: &mut [u8], line: &[u8]) -> Sheet {
+fn entry(rt: &impl Print, sheet: Sheet, paper: &mut [u8], line: &[u8]) -> Sheet {
     if line.len() < 3 {
         return sheet;
     }
-    sheet.bytes(paper, &line[3..])
+    sheet.bytes(rt, paper, &line[3..])
 }
