@@ -1,8 +1,8 @@
 -- What is known of a request that the checks let through: its range lies in its region, and its data has the length that it says.
 use Prim.Native.Nat.{ℕ, ◌+◌, ◌≤◌}
-use mathlib.Core.Bool.{Bool, true, false, cond, not, and-eq-true_iff}
+use mathlib.Core.Bool.{true, false, not, and-eq-true_iff}
 use mathlib.Core.List.{List, ◌∷◌}
-use mathlib.Core.Path.{◌≡◌, refl, sym, ap, subst, ◌∙◌}
+use mathlib.Core.Path.{◌≡◌, sym, subst, ◌∙◌}
 use borrow.Author.Tests.{eqb-true, leb-true, ltb-false, not-false, not-true}
 use lib.Dec.{eqb, leb, ltb}
 use lib.ListN.{length, drop, get_or, length-drop}
