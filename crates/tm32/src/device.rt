@@ -211,8 +211,8 @@ fn work(
     buffer: &mut [u8],
 ) -> Turn
     requires lent { Lent (memory_of flash.old ram.old nvr.old) (length buffer.old) }
-    requires request_value { request ≡ request_in settings.start message.now }
-    requires request_value_2 { verdict_on (device_of session (memory_of flash.old ram.old nvr.old)) request ≡ work_done }
+    requires asked { request ≡ request_in settings.start message.now }
+    requires passes { verdict_on (device_of session (memory_of flash.old ram.old nvr.old)) request ≡ work_done }
     ensures { leaves result flash.new ram.new nvr.new buffer.new
         ≡ lay_answer buffer.old
         (reply_to settings.start (work_is settings (device_of session (memory_of flash.old ram.old nvr.old))
@@ -233,7 +233,7 @@ fn change(
     nvr: &mut [u8],
 ) -> u8
     requires lent { Lent (memory_of flash.old ram.old nvr.old) reply_room }
-    requires request_value { request ≡ request_in settings.start message.now }
+    requires asked { request ≡ request_in settings.start message.now }
     requires let_through { LetThrough request }
     ensures { Changed settings (memory_of flash.old ram.old nvr.old) (data_of message.now)
         request (memory_of flash.new ram.new nvr.new) result }

@@ -3,12 +3,10 @@ use Prim.Native.Nat.{ℕ}
 use mathlib.Core.List.{List, []}
 use mathlib.Core.Path.{◌≡◌, refl, ap, ◌∙◌}
 use native.Mathlib.Nat.{le_refl}
-use native.Mathlib.Omega.{arith}
 use borrow.Author.Rules.{rules}
-use lib.ListN.{length}
 use Rattle.frame.specs.Frame.{frame}
 use Rattle.tm32.specs.After.{reply_room}
-use Rattle.tm32.specs.Device.{Device, Memory, device_of, memory_of}
+use Rattle.tm32.specs.Device.{Memory, device_of, memory_of}
 use Rattle.tm32_asks.specs.Options.{option_bytes}
 use Rattle.tm32.specs.Promises.{Changed, GoesOn, LetThrough}
 use Rattle.tm32.specs.Respond.{Answered, answered, reply_to}
@@ -19,8 +17,8 @@ use Rattle.tm32.specs.declared.Session.{Session}
 use Rattle.tm32.specs.declared.Settings.{Settings}
 use Rattle.tm32.proofs.Answers.{answers}
 use Rattle.tm32.proofs.Passed.{let_through}
-use Rattle.tm32.proofs.device.work.Statement.{statement}
-use Rattle.tm32.proofs.device.work.Tie as tie
+use Rattle.tm32.proofs.device.work.Goals as goal
+use Rattle.tm32.proofs.device.work.Goals.{Start}
 
 module _ (settings : Settings) (session : Session) (memory : Memory) (payload : List ℕ) where
   -- What comes of the request.
@@ -56,52 +54,35 @@ module _ (settings : Settings) (session : Session) (memory : Memory) (payload : 
         ∙ ap (λ (one : ℕ). answer (done request).device.session (done request).device.memory one) (did.gives session)
         ∙ ap (λ (bytes : List ℕ). answered (done request).device (frame settings.start (done request).result bytes)) (same_data (done request).device.session request)
 
-module _ (c : tie.After-slice-known4) where
-  abbrev start : tie.Start
-  start = c.before.before.before.before.before
-
+module _ (c : Start) where
   abbrev memory : Memory
-  memory = memory_of start.args.flash.now start.args.ram.now start.args.nvr.now
+  memory = memory_of c.args.flash.now c.args.ram.now c.args.nvr.now
 
   -- the checks let the request through
-  lets : LetThrough start.args.request
+  lets : LetThrough c.args.request
   lets =
       record {
-        link = start.args.session.link;
+        link = c.args.session.link;
         options = option_bytes memory.nvr;
-        passes = let_through (device_of start.args.session memory) refl start.pre.1.1;
+        passes = let_through (device_of c.args.session memory) refl c.requires.passes;
       }
 
-change-requires : tie.Need-change-requires
-change-requires c κs =
-    let at = c.before.before.before in
-    let lent = (start at).requires.0 in
-    (record { flash = lent.flash; ram = lent.ram; nvr = lent.nvr; space = le_refl reply_room }, ((start at).requires.1.0, lets at))
+pub change-result-requires : goal.change-result-requires
+change-result-requires c =
+    let had = c.requires.lent in
+    record {
+      lent = record { flash = had.flash; ram = had.ram; nvr = had.nvr; space = le_refl reply_room };
+      asked = c.requires.asked;
+      let_through = lets (goal.at.change-result-requires c).Start;
+    }
 
-answered-requires : tie.Need-answered-requires
-answered-requires c κs =
-    let change = c.before.before.before.before.before.before.before.before.before.before.before in
-    let at = change.before.before.before.before in
-    (record { flash = search rules; ram = search rules; nvr = search rules; space = (start at).requires.0.space }, lets at)
+pub answered-requires : goal.answered-requires
+answered-requires c =
+    record {
+      lent = record { flash = search rules; ram = search rules; nvr = search rules; space = c.requires.lent.space };
+      let_through = lets (goal.at.answered-requires c).Start;
+    }
 
-returns : tie.Need-returns
+pub returns : goal.returns
 returns c =
-    let answer = c.before.before in
-    let onward = answer.before.before.before.before.before in
-    let change = onward.before.before.before.before.before.before.before in
-    let at = change.before.before.before.before in
-    answers _ _ _ answer.answered.ensures (whole _ _ (memory at) _ _ change.change.ensures onward.onward.ensures)
-
--- what the search finds: that no call changes the length of a slice
-pub work-spec : {M : Type 1} → statement M
-work-spec =
-    tie.close
-    (tie.spec
-    change-requires
-    (search rules)
-    answered-requires
-    (search rules)
-    (search rules)
-    (search rules)
-    (search rules)
-    returns)
+    answers _ _ _ c.answered.ensures (whole _ _ (memory (goal.at.returns c).Start) _ _ c.change-result.ensures c.onward-next.ensures)

@@ -6,11 +6,9 @@ use mathlib.Core.Path.{◌≡◌, refl, sym}
 use native.Mathlib.Omega.{arith}
 use lib.Dec.{eqb}
 use lib.ListN.{length, get_or}
-use borrow.Author.Rules.{rules}
 use Rattle.memory.specs.Stores.{same}
 use Rattle.tm32.specs.Respond.{hello}
-use Rattle.tm32.proofs.device.is_hello.Statement.{statement}
-use Rattle.tm32.proofs.device.is_hello.Tie as tie
+use Rattle.tm32.proofs.device.is_hello.Goals as goal
 
 other_length : (message : List ℕ) → (length message ≡ 1 → ⊥) → false ≡ same message hello
 unfolding same
@@ -24,11 +22,8 @@ one_byte [] one = absurd (omega arith)
 one_byte (byte ∷ []) one = sym (and-true (eqb byte 0x7F))
 one_byte (byte ∷ next ∷ rest) one = absurd (omega arith)
 
-returns : tie.Need-returns
-returns c = other_length _ c.if1.true
+pub returns-then-message-ne1 : goal.returns-then-message-ne1
+returns-then-message-ne1 c = other_length _ c.if-message-ne1.true
 
-returns-2 : tie.Need-returns-2
-returns-2 c = one_byte _ c.before.if1.false
-
-pub is-hello-spec : {M : Type 1} → statement M
-is-hello-spec = tie.close (tie.spec returns (search rules) returns-2)
+pub returns : goal.returns
+returns c = one_byte _ c.if-message-ne1.false

@@ -3,13 +3,11 @@ use Prim.Native.Nat.{ℕ, ◌-◌}
 use mathlib.Core.Bool.{Bool, true, false, cond, ◌||◌}
 use mathlib.Core.List.{List}
 use mathlib.Core.Path.{◌≡◌, refl, sym, ap, ◌∙◌}
-use borrow.Author.Rules.{rules}
 use Rattle.memory.specs.Stores.{part}
 use Rattle.tm32.specs.Device.{bytes_at, memory_of}
 use Rattle.tm32_asks.specs.Map.{flash_start, in_flash, in_flash_or_ram, in_ram, nvr_start, ram_start}
 use Rattle.tm32.proofs.Regions.{held, not_in_nvr, nvr_apart}
-use Rattle.tm32.proofs.read.work.Statement.{statement}
-use Rattle.tm32.proofs.read.work.Tie as tie
+use Rattle.tm32.proofs.read.work.Goals as goal
 
 -- a range in flash or RAM, picked from the two
 of_two : (flash ram nvr : List ℕ) (address count : ℕ) → in_flash_or_ram address count ≡ true
@@ -22,32 +20,25 @@ of_two flash ram nvr address count inside = either (in_flash address count) (in_
   either true other some = refl
   either false other some = sym (ap (λ (test : Bool). cond test (part ram (address - ram_start) count) (part nvr (address - nvr_start) count)) some)
 
-in-nvr-requires : tie.Need-in-nvr-requires
-in-nvr-requires c κs = search rules
+pub range_of-requires : goal.range_of-requires
+range_of-requires c =
+    held _ _ _ c.requires.nvr_len (sym c.in_nvr.ensures ∙ c.if-in_nvr.true)
 
-range-of-requires : tie.Need-range-of-requires
-range-of-requires c κs =
-    held _ _ _ c.before.before.before.before.before.requires.1.1.0 (sym c.before.in_nvr.ensures ∙ c.if1.true)
-
-returns : tie.Need-returns
+pub returns-then-in_nvr : goal.returns-then-in_nvr
 unfolding bytes_at
+returns-then-in_nvr c =
+    let apart = nvr_apart _ _ (sym c.in_nvr.ensures ∙ c.if-in_nvr.true) in
+    c.range_of.ensures ∙ simp (apart.0, apart.1)
+
+pub picked-requires : goal.picked-requires
+picked-requires c =
+    record {
+      flash_len = c.requires.flash_len;
+      ram_len = c.requires.ram_len;
+      count_value = not_in_nvr _ _ c.requires.count_value (sym c.in_nvr.ensures ∙ c.if-in_nvr.false);
+    }
+
+pub returns : goal.returns
 returns c =
-    let test = c.before in
-    let apart = nvr_apart _ _ (sym test.before.in_nvr.ensures ∙ test.if1.true) in
-    c.range-of.ensures ∙ simp (apart.0, apart.1)
-
-picked-requires : tie.Need-picked-requires
-picked-requires c κs =
-    let pre = c.before.before.before.before.before.requires in
-    (pre.0, (pre.1.0, not_in_nvr _ _ pre.1.1.1 (sym c.before.in_nvr.ensures ∙ c.if1.false)))
-
-returns-2 : tie.Need-returns-2
-returns-2 c =
-    let test = c.before in
-    let pre = test.before.before.before.before.before.requires in
-    let two = not_in_nvr _ _ pre.1.1.1 (sym test.before.in_nvr.ensures ∙ test.if1.false) in
+    let two = not_in_nvr _ _ c.requires.count_value (sym c.in_nvr.ensures ∙ c.if-in_nvr.false) in
     c.picked.ensures ∙ of_two _ _ _ _ _ two
-
-pub work-spec : {M : Type 1} → statement M
-work-spec =
-    tie.close (tie.spec in-nvr-requires range-of-requires returns picked-requires returns-2)

@@ -5,8 +5,8 @@ use mathlib.Core.Path.{◌≡◌, refl, ap, ◌∙◌}
 use borrow.Author.Rules.{rules}
 use lib.ListN.{length, get_or}
 use Rattle.tm32.specs.Work.{command_word, information, told_commands}
-use Rattle.tm32.proofs.get.work.Statement.{statement}
-use Rattle.tm32.proofs.get.work.Tie as tie
+use Rattle.tm32.proofs.get.work.Goals as goal
+use Rattle.tm32.proofs.get.work.Goals.{After-long-links}
 
 -- so many entries of a list, from a place on
 unfoldable entries : List ℕ → ℕ → ℕ → List ℕ
@@ -29,57 +29,26 @@ whole : (list : List ℕ) (count : ℕ) → length list ≡ count → entries li
 whole list count long = rw (← long) (all list)
 
 -- the parts, one behind the other
-parts : (c : tie.After-long2) → let settings = c.before.before.before.before.args.settings in
+parts : (c : After-long-links) → let settings = c.args.settings in
     entries settings.version 0 2
     ++ entries settings.serial 0 12
     ++ settings.«package»
     ∷ settings.model
-    ∷ entries c.before.long.result 0 4
-    ++ entries c.long2.result 0 4
+    ∷ entries c.long-commands.result 0 4
+    ++ entries c.long-links.result 0 4
     ≡ information settings
 unfolding information command_word told_commands
 parts c =
-    let settings = c.before.before.before.before.args.settings in
+    let settings = c.args.settings in
     rw (
       whole settings.version 2 (search rules),
       whole settings.serial 12 (search rules),
-      whole c.before.long.result 4 (search rules),
-      whole c.long2.result 4 (search rules),
-      c.before.long.ensures,
-      c.long2.ensures,
+      whole c.long-commands.result 4 (search rules),
+      whole c.long-links.result 4 (search rules),
+      c.long-commands.ensures,
+      c.long-links.ensures,
     )
 
-returns : tie.Need-returns
+pub returns : goal.returns
 unfolding entries
-returns c = parts c
-
--- what the two calls ask, and that each place that is read is one of its array, comes first, and the search finds it
-pub work-spec : {M : Type 1} → statement M
-work-spec =
-    tie.close
-    (tie.spec
-    (search rules)
-    (search rules)
-    (search rules)
-    (search rules)
-    (search rules)
-    (search rules)
-    (search rules)
-    (search rules)
-    (search rules)
-    (search rules)
-    (search rules)
-    (search rules)
-    (search rules)
-    (search rules)
-    (search rules)
-    (search rules)
-    (search rules)
-    (search rules)
-    (search rules)
-    (search rules)
-    (search rules)
-    (search rules)
-    (search rules)
-    (search rules)
-    returns)
+returns c = parts (goal.at.returns c).After-long-links
