@@ -232,7 +232,7 @@ fn put_head(size: u16, kind: u16, part: &mut [u8])
     requires { head_length ≤ length part.old }
     ensures { part.new ≡ laid (head_of size kind) part.old }
 {
-    bytes::copy(&head_of(size, kind), part);
+    part[..HEAD_LENGTH].copy_from_slice(&head_of(size, kind));
 }
 
 // The record that tells what is wrong with a tape.

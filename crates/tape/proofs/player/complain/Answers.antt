@@ -3,7 +3,6 @@ use Prim.Native.Nat.{ℕ, ◌+◌, ◌-◌, ◌≤◌}
 use mathlib.Core.List.{List, [], ◌∷◌}
 use mathlib.Core.Path.{◌≡◌, sym, ap, ◌∙◌}
 use native.Mathlib.Nat.{add-zero}
-use borrow.Author.Rules.{rules}
 use borrow.Author.Tests.{lt-ltb, le-ltb}
 use lib.ListN.{length}
 use Rattle.frame.specs.Frame.{word}
@@ -15,18 +14,16 @@ use Rattle.tape.specs.declared.Place.{Place}
 use Rattle.tape.specs.declared.Played.{Played}
 use Rattle.tape.specs.declared.Stop.TheVariants.{Error, Room}
 use Rattle.tape.proofs.Buffers.{put_laid, stops}
-use Rattle.tape.proofs.player.complain.Statement.{statement}
-use Rattle.tape.proofs.player.complain.Tie as tie
+use Rattle.tape.proofs.player.complain.Goals as goal
 
 -- too little room
-returns : tie.Need-returns
+pub returns-then-buffer-written-lt-RECORD_ROOM : goal.returns-then-buffer-written-lt-RECORD_ROOM
 unfolding closing
-returns c =
-    let start = c.before.before.before in
+returns-then-buffer-written-lt-RECORD_ROOM c =
     λ memory.
-    ap (λ (played : Played). left_by played memory start.args.buffer.now) c.off.ensures
-    ∙ stops start.args.place memory start.args.buffer.now Room
-    ∙ sym (simp (lt-ltb _ _ c.before.if1.true))
+    ap (λ (played : Played). left_by played memory c.args.buffer.now) c.off.ensures
+    ∙ stops c.args.place memory c.args.buffer.now Room
+    ∙ sym (simp (lt-ltb _ _ c.if-buffer-written-lt-RECORD_ROOM.true))
 
 -- the record
 told : (place : Place) (memory : Memory) (buffer after : List ℕ) (number : ℕ) → record_room ≤ length buffer - place.written
@@ -36,27 +33,6 @@ told : (place : Place) (memory : Memory) (buffer after : List ℕ) (number : ℕ
 unfolding closing record_of head_of word
 told place memory buffer after number room over = sym (simp (le-ltb _ _ room, add-zero, sym over))
 
-returns-2 : tie.Need-returns-2
-returns-2 c =
-    let put = c.before.before.before in
-    let room = put.before.before in
-    let start = room.before.before in
-    λ memory. told start.args.place memory start.args.buffer.now _ _ room.if1.false (put_laid start.args.place.written start.args.buffer.now _ _ put.put-error.ensures)
-
-same_length : tie.Need-same-length
-same_length c = search rules
-
-pub complain-spec : {M : Type 1} → statement M
-complain-spec =
-    tie.close
-    (tie.spec
-    (search rules)
-    (search rules)
-    returns
-    (search rules)
-    (search rules)
-    (search rules)
-    (search rules)
-    (search rules)
-    same_length
-    returns-2)
+pub returns : goal.returns
+returns c =
+    λ memory. told c.args.place memory c.args.buffer.now _ _ c.if-buffer-written-lt-RECORD_ROOM.false (put_laid c.args.place.written c.args.buffer.now _ _ c.put_error.ensures)

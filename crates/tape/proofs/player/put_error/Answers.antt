@@ -3,28 +3,18 @@ use Prim.Native.Nat.{ℕ, ◌<◌}
 use mathlib.Core.List.{List, [], ◌∷◌}
 use mathlib.Core.Path.{◌≡◌, ap, ◌∙◌}
 use native.Mathlib.Omega.{arith}
-use borrow.Author.Rules.{rules}
 use lib.ListN.{length, set}
 use lib.Seq.{drop-cons}
 use Rattle.frame.specs.Frame.{laid, word}
 use Rattle.tape.specs.Play.{error_kind}
 use Rattle.tape.specs.Records.{head_length, head_of, record_of}
-use Rattle.tape.proofs.player.put_error.Statement.{statement}
-use Rattle.tape.proofs.player.put_error.Tie as tie
+use Rattle.tape.proofs.player.put_error.Goals as goal
 
 -- a byte stored behind a head
 behind_head : (number : ℕ) (part : List ℕ) → head_length < length part → set (laid (head_of 1 error_kind) part) head_length number ≡ laid (record_of error_kind (number ∷ [])) part
 unfolding laid record_of head_of word
 behind_head number part room = rw (drop-cons part head_length 0)
 
-same_length : tie.Need-same-length
-same_length c = search rules
-
-returns : tie.Need-returns
+pub returns : goal.returns
 returns c =
-    let put = c.before.before in
-    let start = put.before.before.before in
-    ap (λ (list : List ℕ). set list head_length start.args.number) put.put-head.ensures ∙ behind_head start.args.number start.args.part.now (omega arith)
-
-pub put-error-spec : {M : Type 1} → statement M
-put-error-spec = tie.close (tie.spec (search rules) (search rules) same_length returns)
+    ap (λ (list : List ℕ). set list head_length c.args.number) c.put_head.ensures ∙ behind_head c.args.number c.args.part.now (omega arith)

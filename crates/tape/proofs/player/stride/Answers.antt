@@ -4,7 +4,6 @@ use mathlib.Core.List.{List}
 use mathlib.Core.Path.{◌≡◌, sym, ap, ◌∙◌}
 use native.Mathlib.Nat.{le_refl}
 use native.Mathlib.Omega.{arith}
-use borrow.Author.Rules.{rules}
 use borrow.Author.Tests.{lt-ltb, le-ltb}
 use borrow.Rule.Slice.PartMut.{mid_len}
 use lib.ListN.{length}
@@ -20,8 +19,8 @@ use Rattle.tape.specs.declared.Played.{Played}
 use Rattle.tape.specs.declared.Step.TheVariants.{Off}
 use Rattle.tape.specs.declared.Stop.TheVariants.{Room}
 use Rattle.tape.proofs.Striding.{record_short, strides_moved}
-use Rattle.tape.proofs.player.stride.Statement.{statement}
-use Rattle.tape.proofs.player.stride.Tie as tie
+use Rattle.tape.proofs.player.stride.Goals as goal
+use Rattle.tape.proofs.player.stride.Goals.{After-send-turn}
 
 -- where a record has room
 roomy : (settings : Settings) (place : Place) (memory : Memory) (message buffer : List ℕ) → record_room ≤ length buffer - place.written
@@ -36,64 +35,32 @@ cramped : (settings : Settings) (place : Place) (memory : Memory) (message buffe
 unfolding striding
 cramped settings place memory message buffer last room off = ap (λ (one : Played). stride_of (Off one) memory buffer) off ∙ sym (simp (lt-ltb _ _ room))
 
-returns : tie.Need-returns
-returns c = cramped _ _ _ _ _ _ c.before.if1.true c.off.ensures
+pub returns-then-buffer-written-lt-RECORD_ROOM : goal.returns-then-buffer-written-lt-RECORD_ROOM
+returns-then-buffer-written-lt-RECORD_ROOM c = cramped _ _ _ _ _ _ c.if-buffer-written-lt-RECORD_ROOM.true c.off.ensures
 
-module _ (c : tie.After-slice-known8) where
-  abbrev sends : tie.After-send
-  sends = c.before.before.before.before.before.before.before.before
-
-  abbrev room : tie.Else1
-  room = sends.before.before.before.before.before.before
-
-  abbrev start : tie.Start
-  start = room.before.before.before.before.before.before
-
+module _ (c : After-send-turn) where
   abbrev place : Place
-  place = start.args.place
+  place = c.args.place
 
   abbrev buffer : List ℕ
-  buffer = start.args.buffer.now
+  buffer = c.args.buffer.now
 
   -- what the answer tells
   abbrev outcome : Telling
-  outcome = tell start.args.settings (device_of place.session (memory_of start.args.flash.now start.args.ram.now start.args.nvr.now)) start.args.message.now reply_room
-
-  -- what is left of the part that was lent
-  abbrev got : List ℕ
-  got = sends.send.last.1.1.1.1.1.1.0
+  outcome = tell c.args.settings (device_of place.session (memory_of c.args.flash.now c.args.ram.now c.args.nvr.now)) c.args.message.now reply_room
 
   -- a reply has room, so that it can be counted
-  short : (count : ℕ) → sends.send.result.answer ≡ Reply count → place.written + (head_length + count) ≤ length buffer
+  short : (count : ℕ) → c.send-turn.result.answer ≡ Reply count → place.written + (head_length + count) ≤ length buffer
   short count is =
-      let fits = record_short place buffer _ _ _ _ got _ outcome.told count c.before.buffer.given.0 is sends.send.ensures in
-      omega (arith, mid_len place.written _ buffer (le_refl _), start.pre.0)
+      let fits = record_short place buffer _ _ _ _ c.send-turn.new.part _ outcome.told count c.send-turn.auto.part is c.send-turn.ensures in
+      omega (arith, mid_len place.written _ buffer (le_refl _), c.requires.written_in_bounds)
 
-moved-requires : tie.Need-moved-requires
-moved-requires c κs =
-    record { used = (start c).requires.1; written = λ count is. omega (arith, short c count is, (start c).well-formed.1.1.1.1.1.1.0.0) }
+pub moved-requires : goal.moved-requires
+moved-requires c =
+    record { used = c.requires.message_bound; written = λ count is. omega (arith, short (goal.at.moved-requires c).After-send-turn count is, c.well_formed) }
 
-returns-2 : tie.Need-returns-2
-returns-2 c =
-    let at = c.before in
-    strides_moved (place at) (buffer at) _ _ _ _ (got at) _ (outcome at).told _ _ (sends at).send.ensures c.moved.ensures
-    ∙ roomy _ (place at) _ _ (buffer at) (room at).if1.false
-
--- what the search finds: what calls ask that is asked here too, and that no call changes the length of a slice
-pub stride-spec : {M : Type 1} → statement M
-stride-spec =
-    tie.close
-    (tie.spec
-    (search rules)
-    (search rules)
-    returns
-    (search rules)
-    (search rules)
-    (search rules)
-    (search rules)
-    moved-requires
-    (search rules)
-    (search rules)
-    (search rules)
-    (search rules)
-    returns-2)
+pub returns : goal.returns
+returns c =
+    let at = (goal.at.returns c).After-send-turn in
+    strides_moved (place at) (buffer at) _ _ _ _ c.send-turn.new.part _ (outcome at).told _ _ c.send-turn.ensures c.moved.ensures
+    ∙ roomy _ (place at) _ _ (buffer at) c.if-buffer-written-lt-RECORD_ROOM.false

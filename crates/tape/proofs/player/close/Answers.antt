@@ -2,7 +2,6 @@
 use mathlib.Core.List.{List}
 use mathlib.Core.Path.{◌≡◌, refl, sym, ap, ◌∙◌}
 use Prim.Native.Nat.{ℕ, ◌-◌}
-use borrow.Author.Rules.{rules}
 use lib.ListN.{length}
 use Rattle.tm32.specs.Device.{Device, device_of}
 use Rattle.tape.specs.Play.{closing, left_by, stopped}
@@ -11,8 +10,7 @@ use Rattle.tape.specs.declared.Place.{Place}
 use Rattle.tape.specs.declared.Played.{Played}
 use Rattle.tape.specs.declared.Stop.{Stop}
 use Rattle.tape.proofs.Buffers.{stops}
-use Rattle.tape.proofs.player.close.Statement.{statement}
-use Rattle.tape.proofs.player.close.Tie as tie
+use Rattle.tape.proofs.player.close.Goals as goal
 
 -- one stop and another that is the same
 as_told : (place : Place) (buffer buffer' : List ℕ) (stop is : Stop) (last : Played) → stop ≡ is → Closes place is buffer last buffer' → Closes place stop buffer last buffer'
@@ -29,44 +27,22 @@ silent place buffer stop is last told off nothing = as_told place buffer buffer 
     ∙ ap (ends_with place.used place.written buffer) (sym (nothing (device_of place.session memory) (length buffer - place.written))))
 
 -- an error
-returns : tie.Need-returns
-returns c =
-    let complain = c.before.before in
-    as_told _ _ _ _ _ _ complain.before.before.before.stop.given.1 complain.complain.ensures
+pub returns-in-Error : goal.returns-in-Error
+returns-in-Error c =
+    as_told _ _ _ _ _ _ c.in-Error.is c.complain.ensures
 
-returns-2 : tie.Need-returns-2
+pub returns-in-MoreTape : goal.returns-in-MoreTape
 unfolding closing
-returns-2 c = silent _ _ _ _ _ c.before.enum_told.given.1 c.off.ensures (λ device room. refl)
+returns-in-MoreTape c = silent _ _ _ _ _ c.in-MoreTape.is c.off.ensures (λ device room. refl)
 
-returns-3 : tie.Need-returns-3
+pub returns-in-Room : goal.returns-in-Room
 unfolding closing
-returns-3 c = silent _ _ _ _ _ c.before.enum-told2.given.1 c.off2.ensures (λ device room. refl)
+returns-in-Room c = silent _ _ _ _ _ c.in-Room.is c.off-in-Room.ensures (λ device room. refl)
 
-returns-4 : tie.Need-returns-4
+pub returns-in-End : goal.returns-in-End
 unfolding closing
-returns-4 c = silent _ _ _ _ _ c.before.enum-told3.given.1 c.off3.ensures (λ device room. refl)
+returns-in-End c = silent _ _ _ _ _ c.in-End.is c.off-in-End.ensures (λ device room. refl)
 
-returns-5 : tie.Need-returns-5
+pub returns-in-Refused : goal.returns-in-Refused
 unfolding closing
-returns-5 c = silent _ _ _ _ _ c.before.enum-told4.given.1 c.off4.ensures (λ device room. refl)
-
-pub close_spec : {M : Type 1} → statement M
-close_spec =
-    tie.close
-    (tie.spec
-    (search rules)
-    (search rules)
-    (search rules)
-    (search rules)
-    (search rules)
-    (search rules)
-    (search rules)
-    (search rules)
-    (search rules)
-    (search rules)
-    (search rules)
-    returns
-    returns-2
-    returns-3
-    returns-4
-    returns-5)
+returns-in-Refused c = silent _ _ _ _ _ c.in-Refused.is c.off-in-Refused.ensures (λ device room. refl)
