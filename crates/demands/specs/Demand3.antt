@@ -8,7 +8,7 @@ pub mod Grows
 pub mod RightsExamples
 use Rattle.std.specs.Prelude.{true, List, ◌≡◌}
 use Rattle.std.proofs.Common.{sym, ap, ◌∙◌}
-use Rattle.shape.specs.MoreRights.{more_rights as of_any}
+use Rattle.shape.proofs.MoreRights.{more_rights as of_any}
 use Rattle.shape.specs.Shape.{Step, others}
 use Rattle.tm32.specs.After.{Told}
 use Rattle.tm32.specs.Device.{Device}

@@ -1,3 +1,3 @@
-// No code: what any device of our shape is, and the arguments that are made once over all of them, stand in `specs/`.
+// No code: what any device of our shape is stands in `specs/`, and the argument that is made once over all of them in `proofs/`.
 
 #![tactic(auto)]

@@ -5,7 +5,6 @@ use Rattle.std.proofs.Common.{true≢false, sym, ◌∙◌}
 use Rattle.memory.specs.Pages.{pages}
 use Rattle.memory.specs.declared.PageRun.{PageRun}
 use Rattle.memory.proofs.Laws.{some_grows}
-use Rattle.shape.specs.Shape.{others}
 use Rattle.tm32_asks.specs.Checks.{Check, checks, flash_pages, none_fails, numbers_of, protections, read_checks, write_checks}
 use Rattle.tm32_asks.specs.Options.{ProtectAll, rdp_on, under_pcrop, under_wrp}
 use Rattle.tm32_asks.specs.Results.{work_done}
