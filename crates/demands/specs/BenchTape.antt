@@ -78,7 +78,7 @@ fresh_sized = record { version = refl; serial = refl }
 -- ---- a tape is a run of its messages
 
 module _ (settings : Settings) (device : Device) where
-  -- A play that stops neither for want of room nor at a message that is refused shows what the tape is to show. What room is enough, `room-enough` tells.
+  -- A play that stops neither for want of room nor at a message that is refused shows what the tape is to show. What room is enough, `room_enough` tells.
   pub tape_runs : (ends : Bool) (room : ℕ) (tape : List ℕ) → ¬ ((play_tape settings device ends room tape).stop ≡ Room)
       → ((number : ℕ) → ¬ ((play_tape settings device ends room tape).stop ≡ Refused number))
       → seen_of (play_tape settings device ends room tape) ≡ shown settings device ends tape
@@ -114,7 +114,7 @@ started_sized start = record { version = fresh_sized.version; serial = fresh_siz
 module _ (settings : Settings) (strict loose : Device) (alike : AlikeButOptions strict loose) (protects : ProtectAll (option_bytes strict.memory.nvr) (option_bytes loose.memory.nvr)) where
   -- Two devices, the first of which protects all that the second does, are alike but for their option bytes, and hear messages. Both have the same settings, the CRC's start value among them. A tape is
   -- played on the first. No message of it reads or writes the option bytes. Another tape has the same messages but for those that the first device refuses for protection, ends as the first tape does,
-  -- and is played on the second device. Then the two plays agree, if neither stops for want of room. What room is enough, `room-enough` tells.
+  -- and is played on the second device. Then the two plays agree, if neither stops for want of room. What room is enough, `room_enough` tells.
   pub two_tapes : verdict 0 (call_checks strict reply_room) ≡ 0
       → (ends : Bool) (tape other : List ℕ) (room other_room : ℕ)
       → spares_options settings strict (sent_by ends tape) ≡ true

@@ -1,6 +1,6 @@
 -- Document 01, "A message and its reply" and "When nothing is done": demand 1. Whatever the bytes, the state and the lent memory are, each refusal has its own number and is given for its own reason, and
 -- a message that is refused changes no byte of any stored memory.
--- Words to read: below, `Refusals`, `Reasons`, `Meanings` and `Shapes`; and beside them `FirstFailing` and `requestChecks` of `Messages.FirstFailing`, `NeitherEmptyNorHello` of `Messages.Ways`.
+-- Words to read: below, `Refusals`, `Reasons`, `Meanings` and `Shapes`; and beside them `FirstFailing` and `request_checks` of `Messages.FirstFailing`, `NeitherEmptyNorHello` of `Messages.Ways`.
 -- Lemmas to skip, below: `WorkRefused`, `WorkDiffers`, `NumbersMean` and `ShapesRead`.
 pub mod Refusals
 pub mod Reasons

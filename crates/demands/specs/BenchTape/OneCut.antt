@@ -1,5 +1,5 @@
 -- Document 01, "The bench tape": a tape that is cut once, less telling than the pieces on the page `BenchTape`. That is so of all plays that do not end
--- for want of room for records, and `room-enough` on that page tells what room is enough.
+-- for want of room for records, and `room_enough` on that page tells what room is enough.
 use Rattle.std.specs.Prelude.{ℕ, Bool, true, false, List, ◌++◌, ◌≡◌, drop}
 use Rattle.std.proofs.Common.{true≢false, sym, ap, ◌∙◌}
 use Rattle.tm32.specs.Device.{Device}
