@@ -1,7 +1,7 @@
 -- The work of one byte by the table: the upper byte of the running value, with the byte put in, picks the entry, and the lower byte moves up.
---     xor-swap       exclusive or with two numbers, in either order
---     bits-apart     what lies so low that none of it falls out moves up, whatever the bits above it become: of any value, and any count of bits
---     by-table       the work of one byte, of any value
+--     xor_swap       exclusive or with two numbers, in either order
+--     bits_apart     what lies so low that none of it falls out moves up, whatever the bits above it become: of any value, and any count of bits
+--     by_table       the work of one byte, of any value
 -- Assumes nothing.
 use Prim.Native.Nat.{ℕ, zero, suc, ◌+◌, ◌*◌, ◌/◌, ◌%◌, ◌^◌, ◌≤◌, ◌<◌}
 use mathlib.Core.Bool.{Bool, true, false, cond}

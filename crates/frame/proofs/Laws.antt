@@ -1,15 +1,15 @@
 -- The laws of frames: what a crate above goes by, so that it need not open the CRC, a frame, or how one is read and written. Each holds of any start value and of any data.
---     carried_on, crc-fits                   the CRC of a joined list; the CRC fits 16 bits
---     laid-front, laid-rest, laid-length     a buffer with something laid over it
+--     carried_on, crc_fits                   the CRC of a joined list; the CRC fits 16 bits
+--     laid_front, laid_rest, laid_length     a buffer with something laid over it
 --     written, too_long, no_room             which answer the writer gives, and what it leaves of the buffer
 --     answered                               the other way round: what is known where it answers with a length
---     written-is-read, answered-is-read      a frame reads as sound, with the second byte and the data that it was made of
---     read-second                            the second byte that is told of a sound frame is the one that stands there
---     read-was-written, read-once            a sound frame is the frame of its second byte and its data, and the only one
+--     written_is_read, answered_is_read      a frame reads as sound, with the second byte and the data that it was made of
+--     read_second                            the second byte that is told of a sound frame is the one that stands there
+--     read_was_written, read_once            a sound frame is the frame of its second byte and its data, and the only one
 --     whole_again                            a number of 16 bits is what its two bytes make
---     length-message, length-data, short-data, length-frame     lengths
---     frame-bytes, data-bytes                frames and their data are made of bytes
---     none-bytes, more_bytes, joined_bytes, last-bytes, word_bytes     and so are no bytes, one more, two lists joined, the end of one, and a number of 16 bits
+--     length_message, length_data, short_data, length_frame     lengths
+--     frame_bytes, data_bytes                frames and their data are made of bytes
+--     none_bytes, more_bytes, joined_bytes, last_bytes, word_bytes     and so are no bytes, one more, two lists joined, the end of one, and a number of 16 bits
 -- Assumes nothing.
 use Prim.Native.Nat.{ℕ, ◌+◌, ◌-◌, ◌≤◌, ◌<◌}
 use mathlib.Core.List.{List, [], ◌∷◌, ◌++◌}

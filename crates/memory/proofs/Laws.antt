@@ -1,16 +1,16 @@
 -- The laws of lent memory: what a crate above goes by, with no definition of this crate opened. Each holds of any numbers and any lists.
---     length_part, part_at, parts-sized, part_same     a part of a memory
---     length-replaced, part-of-replaced, replaced-inside, replaced-before, replaced-behind, replaced-nothing
+--     length_part, part_at, parts_sized, part_same     a part of a memory
+--     length_replaced, part_of_replaced, replaced_inside, replaced_before, replaced_behind, replaced_nothing
 --                                            a memory with other bytes from a place on: these stand there, and every other byte is as it was
---     length-masked, masked-at, length-kept, kept_at     what programming leaves of bytes that are given
---     same-itself, same-equal                the comparison of two lists
---     stored, store-leaves, not-stored, programmed, not-programmed     which answer a store gives, and what it leaves of the memory
---     store-answered                         the other way round: what is known of a store by its answer
---     in-region, region-holds                a range lies in a region just where both its ends do
---     some-page, some-none, some_one, some-grows, some-either     whether some page of a run passes a test
---     covered, covers-known, meets-is        ranges of page numbers
---     touched-is, touched-nothing, touched-page, page-touched     the run of the pages on which a range has a byte
---     part_bytes, masked-bytes, kept-bytes, replicate-bytes, replaced-bytes     bytes stay bytes
+--     length_masked, masked_at, length_kept, kept_at     what programming leaves of bytes that are given
+--     same_itself, same_equal                the comparison of two lists
+--     stored, store_leaves, not_stored, programmed, not_programmed     which answer a store gives, and what it leaves of the memory
+--     store_answered                         the other way round: what is known of a store by its answer
+--     in_region, region_holds                a range lies in a region just where both its ends do
+--     some_page_passes, some_none, some_one, some_grows, some_either     whether some page of a run passes a test
+--     covered, covers_known, meets_is        ranges of page numbers
+--     touched_is, touched_nothing, touched_page, page_touched     the run of the pages on which a range has a byte
+--     part_bytes, masked_bytes, kept_bytes, replicate_bytes, replaced_bytes     bytes stay bytes
 -- Assumes nothing.
 use Prim.Native.Nat.{ℕ, zero, suc, ◌+◌, ◌-◌, ◌*◌, ◌/◌, ◌≤◌, ◌<◌}
 use mathlib.Core.Bool.{Bool, true, false, cond, false≢true, true≢false, ◌||◌, and-eq-true_iff, or-true}

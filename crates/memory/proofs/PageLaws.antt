@@ -1,10 +1,10 @@
 -- The laws of pages, for any size of a page and any count of pages: what a crate above goes by, with no definition of this crate opened.
---     past-the-last, turned_round, up-to-the-last, any-count, every-page     which pages a range of page numbers protects
---     wider-covers, wider-finds              more protection finds more pages
---     touched-had                            the pages that bytes of a memory touch are pages that it has
---     erase-fits, fill-erases, erase-length, on-erased, off-erased, erase-bytes     an erase: its pages are blank, and every other byte is as it was
---     wipe-turn, wipe-length, on-wiped, off-wiped, wipe-of-none, wipe-of-all, wipe-bytes     a wipe: the same of the pages that pass its test
--- Of an erase and a wipe they ask that a page has some length, that the memory is so many pages long, and that it has the pages in question. Only `every-page` asks for a count of at most 256: the ends of a
+--     past_the_last, turned_round, up_to_the_last, any_count, every_page     which pages a range of page numbers protects
+--     wider_covers, wider_finds              more protection finds more pages
+--     touched_had                            the pages that bytes of a memory touch are pages that it has
+--     erase_fits, fill_erases, erase_length, on_erased, off_erased, erase_bytes     an erase: its pages are blank, and every other byte is as it was
+--     wipe_turn, wipe_length, on_wiped, off_wiped, wipe_of_none, wipe_of_all, wipe_bytes     a wipe: the same of the pages that pass its test
+-- Of an erase and a wipe they ask that a page has some length, that the memory is so many pages long, and that it has the pages in question. Only `every_page` asks for a count of at most 256: the ends of a
 -- range are bytes, and no more pages have numbers of one byte.
 use Prim.Native.Nat.{ℕ, zero, suc, ◌+◌, ◌-◌, ◌*◌, ◌/◌, ◌≤◌, ◌<◌}
 use mathlib.Core.Bool.{Bool, true, false, cond, true≢false}

@@ -1,5 +1,5 @@
 -- `frame::crc16::entry` meets its contract. The kit's borrow checker leaves a match without `_` to its author, so this is a walk by hand over MIR, the form in which the kit proves code.
---     is-table    the table's rule, one computed statement: the function is the one that the definition makes. No number of the table stands here
+--     is_table    the table's rule, one computed statement: the function is the one that the definition makes. No number of the table stands here
 --     matched     what the arm of a byte asks is all that the match asks, by induction over the arms
 --     walk        the arm of a byte, from the call to the return
 -- Assumes nothing.

@@ -1,4 +1,4 @@
--- `tm32::Session::bits_per_second` meets its contract: the two tests are those of `fromOneTo`, and the table is `rates`.
+-- `tm32::Session::bits_per_second` meets its contract: the two tests are those of `from_one_to`, and the table is `rates`.
 use mathlib.Core.Path.{refl}
 use borrow.Author.Tests.{le-leb, lt-leb}
 use Rattle.tm32_asks.specs.Numbers.{from_one_to}
