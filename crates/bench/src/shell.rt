@@ -115,8 +115,8 @@ fn put_out(rt: &(impl Print + Eprint), records: &[u8]) -> bool {
 
 // Sees to what the player asks for.
 fn after(rt: &(impl Input + Eprint), bench: Bench, played: Played, block: &mut [u8]) -> Bench
-    requires used_bound { (bench.from + played.used ≤ bench.held) × (bench.held ≤ length block.old) }
-    requires used_in_bounds { played.stop ≡ Stop.MoreTape → bench.held - (bench.from + played.used) < length block.old }
+    requires inside { (bench.from + played.used ≤ bench.held) × (bench.held ≤ length block.old) }
+    requires room { played.stop ≡ Stop.MoreTape → bench.held - (bench.from + played.used) < length block.old }
     ensures { (result.from ≤ result.held) × (result.held ≤ length block.new) }
 {
     let session = played.session;

@@ -22,8 +22,8 @@ pub fn write(start: u16, second: u8, payload: &[u8], buffer: &mut [u8]) -> Writt
 
 // Lays the frame over the start of a buffer that has room for it: head, data and CRC, one behind the other.
 fn put(start: u16, second: u8, payload: &[u8], buffer: &mut [u8])
-    requires payload_len_bound { length payload.now ≤ longest }
-    requires overhead_in_bounds { length payload.now + overhead ≤ length buffer.old }
+    requires short { length payload.now ≤ longest }
+    requires room { length payload.now + overhead ≤ length buffer.old }
     ensures { buffer.new ≡ laid (frame start second payload.now) buffer.old }
 {
     let size = word(payload.len() as u16);

@@ -2,7 +2,7 @@
 use Prim.Native.Nat.{ℕ, ◌+◌, ◌≤◌, ◌<◌}
 use mathlib.Core.Bool.{Bool, true, false, cond}
 use mathlib.Core.List.{List, [], ◌∷◌}
-use mathlib.Core.Path.{◌≡◌, refl, ap, subst, ◌∙◌}
+use mathlib.Core.Path.{◌≡◌, refl, sym, ap, subst, ◌∙◌}
 use native.Mathlib.Omega.{arith}
 use lib.Dec.{ltb}
 use lib.ListN.{length, set}
@@ -38,6 +38,10 @@ module _ (sheet : Sheet) (failed : sheet.failed ≡ true) where
   pub not_written : (taken : Bool) → written_out taken sheet ≡ sheet
   unfolding written_out
   not_written taken = rw failed
+
+  -- which is what its contract asks
+  pub stays : WritesOut sheet sheet
+  stays = record { taken = true; same = sym (not_written true) }
 
   -- nor for want of room
   no_room_made : (taken : Bool) (size : ℕ) → with_room taken size sheet ≡ sheet

@@ -66,6 +66,7 @@ impl Sheet {
         self.after(rt, buffer)
     }
 
+    #[tactic(auto, using(crate::proofs::Laws::stays))]
     fn after(self, rt: &impl Print, collected: &[u8]) -> Self
         ensures { WritesOut self result }
     {

@@ -143,8 +143,8 @@ fn stride(
     nvr: &mut [u8],
     buffer: &mut [u8],
 ) -> Step
-    requires written_in_bounds { place.written ≤ length buffer.old }
-    requires message_bound { place.used + (head_length + length message.now) < 2 ^ 64 }
+    requires written { place.written ≤ length buffer.old }
+    requires countable { place.used + (head_length + length message.now) < 2 ^ 64 }
     ensures { stride_of result (memory_of flash.new ram.new nvr.new) buffer.new
         ≡ striding settings place (memory_of flash.old ram.old nvr.old)
         message.now buffer.old }

@@ -9,8 +9,8 @@ use tm32_asks::PAGE_SIZE;
 const BLANK: u8 = 0xFF;
 
 pub(crate) fn work(flash: &mut [u8], first: u32, count: u32)
-    requires flash_len { length flash.old ≡ flash_length }
-    requires count_bound { first + count ≤ page_count }
+    requires flash_sized { length flash.old ≡ flash_length }
+    requires inside { first + count ≤ page_count }
     ensures { flash.new ≡ erased flash.old first count }
 {
     memory::fill(

@@ -17,10 +17,10 @@ pub(crate) fn work<'a>(
     count: u32,
     wanted: u16,
 ) -> u8
-    requires flash_len { length flash.now ≡ flash_length }
-    requires ram_len { length ram.now ≡ ram_length }
-    requires nvr_len { length nvr.now ≡ nvr_length }
-    requires count_value { in_user_region address count ≡ true }
+    requires flash_sized { length flash.now ≡ flash_length }
+    requires ram_sized { length ram.now ≡ ram_length }
+    requires nvr_sized { length nvr.now ≡ nvr_length }
+    requires inside { in_user_region address count ≡ true }
     ensures { result ≡ compared start (memory_of flash.now ram.now nvr.now) address count wanted }
 {
     if frame::crc(start, read::work(flash, ram, nvr, address, count)) == wanted {

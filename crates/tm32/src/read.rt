@@ -15,10 +15,10 @@ pub(crate) fn work<'a>(
     address: u32,
     count: u32,
 ) -> &'a [u8]
-    requires flash_len { length flash.now ≡ flash_length }
-    requires ram_len { length ram.now ≡ ram_length }
-    requires nvr_len { length nvr.now ≡ nvr_length }
-    requires count_value { in_read_region address count ≡ true }
+    requires flash_sized { length flash.now ≡ flash_length }
+    requires ram_sized { length ram.now ≡ ram_length }
+    requires nvr_sized { length nvr.now ≡ nvr_length }
+    requires inside { in_read_region address count ≡ true }
     ensures { result.now ≡ bytes_at (memory_of flash.now ram.now nvr.now) address count }
 {
     if in_nvr(address, count) {
@@ -29,9 +29,9 @@ pub(crate) fn work<'a>(
 
 // The bytes of a range in flash or RAM: the address says in which.
 fn picked<'a>(flash: &'a [u8], ram: &'a [u8], address: u32, count: u32) -> &'a [u8]
-    requires flash_len { length flash.now ≡ flash_length }
-    requires ram_len { length ram.now ≡ ram_length }
-    requires count_value { in_flash_or_ram address count ≡ true }
+    requires flash_sized { length flash.now ≡ flash_length }
+    requires ram_sized { length ram.now ≡ ram_length }
+    requires inside { in_flash_or_ram address count ≡ true }
     ensures { result.now
         ≡ cond (in_flash address count) (part flash.now (address - flash_start) count)
         (part ram.now (address - ram_start) count) }

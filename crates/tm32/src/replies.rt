@@ -16,8 +16,8 @@ pub(crate) fn reply_with(
     payload: &[u8],
     buffer: &mut [u8],
 ) -> Turn
-    requires payload_len_bound { length payload.now ≤ most_bytes }
-    requires reply_room_in_bounds { reply_room ≤ length buffer.old }
+    requires short { length payload.now ≤ most_bytes }
+    requires room { reply_room ≤ length buffer.old }
     ensures { Laid result buffer.new session (frame start res payload.now) buffer.old }
 {
     match frame::write(start, res, payload, buffer) {

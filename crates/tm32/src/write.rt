@@ -19,11 +19,11 @@ pub(crate) fn work(
     address: u32,
     bytes: &[u8],
 ) -> u8
-    requires flash_len { length flash.old ≡ flash_length }
-    requires ram_len { length ram.old ≡ ram_length }
-    requires nvr_len { length nvr.old ≡ nvr_length }
-    requires bytes_len_bound { length bytes.now ≤ most_bytes }
-    requires bytes_value { in_user_region address (length bytes.now) ≡ true }
+    requires flash_sized { length flash.old ≡ flash_length }
+    requires ram_sized { length ram.old ≡ ram_length }
+    requires nvr_sized { length nvr.old ≡ nvr_length }
+    requires short { length bytes.now ≤ most_bytes }
+    requires inside { in_user_region address (length bytes.now) ≡ true }
     ensures { (memory_of flash.new ram.new nvr.new
         ≡ written (memory_of flash.old ram.old nvr.old) address bytes.now)
         × (result ≡ readback flag address bytes.now

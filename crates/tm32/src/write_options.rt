@@ -9,9 +9,9 @@ use crate::{erase, read_options};
 use tm32_asks::{OPTIONS_PLACE, PAGE_COUNT, rdp_on};
 
 pub(crate) fn work(flash: &mut [u8], nvr: &mut [u8], options: &[u8])
-    requires flash_len { length flash.old ≡ flash_length }
-    requires nvr_len { length nvr.old ≡ nvr_length }
-    requires options_len { length options.now ≡ options_length }
+    requires flash_sized { length flash.old ≡ flash_length }
+    requires nvr_sized { length nvr.old ≡ nvr_length }
+    requires options_sized { length options.now ≡ options_length }
     ensures { (flash.new ≡ wiped (option_bytes nvr.old) options.now page_count flash.old)
         × (nvr.new ≡ replaced nvr.old (options_start - nvr_start) options.now) }
 {

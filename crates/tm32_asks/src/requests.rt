@@ -24,6 +24,7 @@ pub fn request_in(start: u16, message: &[u8]) -> Request
 }
 
 // The ten commands, and the data that each takes. A frame's second byte is the command.
+#[tactic(auto, unfolding(crate::specs::Request::request_of))]
 fn request_of(second: u8, payload: &[u8]) -> Request
     requires { length payload.now ≤ longest }
     ensures { result ≡ request_of second payload.now }

@@ -1,4 +1,4 @@
--- `arguments::command_line::equal` meets its contract. The loop's invariant: what is left of the two lists is the same where all of them is.
+-- `arguments::command_line::equal` meets its contract: what its loop keeps says so at the end.
 use Prim.Native.Nat.{ℕ, ◌+◌, ◌≤◌, ◌<◌}
 use mathlib.Core.Bool.{Bool, true, false}
 use mathlib.Core.List.{List}

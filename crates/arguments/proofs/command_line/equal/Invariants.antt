@@ -1,4 +1,4 @@
--- `arguments::command_line::equal` meets its contract. The loop's invariant: what is left of the two lists is the same where all of them is.
+-- The loop of `arguments::command_line::equal`: what is left of the two lists is the same where all of them is.
 use Prim.Native.Nat.{◌-◌}
 use mathlib.Core.Path.{◌≡◌}
 use lib.ListN.{drop, length}

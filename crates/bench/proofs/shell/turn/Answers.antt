@@ -14,12 +14,12 @@ slice_bounds-put_out-end-2 g c =
     let same = c.play-played.auto.buffer in
     sym (length-take-le _ _ (omega (arith, handed_written _ _ _ _ _ _ _ _ c.play-played.ensures same, same)))
 
-pub after-requires-clause-used_bound : goal.after-requires-clause-used_bound
-after-requires-clause-used_bound g c =
+pub after-requires-clause-inside : goal.after-requires-clause-inside
+after-requires-clause-inside g c =
     let tape_long = mid_len c.args.bench.from c.args.bench.held c.args.block.now c.requires.1 in
     (omega (arith, handed_used _ _ _ _ _ _ _ _ c.play-played.ensures, tape_long), c.requires.1)
 
-pub after-requires-clause-used_in_bounds : goal.after-requires-clause-used_in_bounds
-after-requires-clause-used_in_bounds g c wants =
+pub after-requires-clause-room : goal.after-requires-clause-room
+after-requires-clause-room g c wants =
     let tape_long = mid_len c.args.bench.from c.args.bench.held c.args.block.now c.requires.1 in
     omega (arith, handed_short _ _ _ _ _ _ _ _ c.play-played.ensures wants, tape_long)

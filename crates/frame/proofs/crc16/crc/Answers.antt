@@ -1,4 +1,4 @@
--- `frame::crc16::crc` meets its contract. The loop's invariant: carrying the running value on over the bytes that are left gives the definition's.
+-- `frame::crc16::crc` meets its contract: what its loop keeps says so at the end.
 use Prim.Native.Nat.{ℕ, ◌+◌, ◌≤◌, ◌<◌}
 use mathlib.Core.Path.{◌≡◌, sym, ◌∙◌}
 use mathlib.Core.List.{List}

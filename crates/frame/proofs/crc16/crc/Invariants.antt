@@ -1,4 +1,4 @@
--- `frame::crc16::crc` meets its contract. The loop's invariant: carrying the running value on over the bytes that are left gives the definition's.
+-- The loop of `frame::crc16::crc`: carrying the running value on over the bytes that are left gives the definition's.
 use Prim.Native.Nat.{◌-◌, ◌≤◌}
 use mathlib.Core.Path.{◌≡◌}
 use lib.ListN.{length, drop}

@@ -1,13 +1,11 @@
 -- `frame::writer::put` meets its contract. Head, data and CRC are laid over the buffer one behind the other, and what is laid by then is at each step a front of the frame.
 use Prim.Native.Nat.{ℕ, ◌+◌, ◌-◌}
 use mathlib.Core.Path.{◌≡◌, refl, ap, ◌∙◌}
-use mathlib.Core.List.{List, ◌∷◌, ◌++◌, append_assoc}
+use mathlib.Core.List.{List, ◌∷◌, ◌++◌, append_assoc, append-nil}
 use native.Mathlib.Nat.{add-sub_cancel_left}
 use borrow.Rule.Slice.PartMut.{mid_of, put_mid}
 use lib.ListN.{length, take, length-append}
-use lib.Seq.{take-length, drop-drop, take-append_seam, drop-append_seam}
-use mathlib.Core.List.{append-nil}
-use lib.Seq.{drop-length}
+use lib.Seq.{take-length, drop-drop, take-append_seam, drop-append_seam, drop-length}
 use Rattle.frame.specs.Crc.{crc}
 use Rattle.frame.specs.Frame.{head_byte, word, covered, frame, laid}
 use Rattle.frame.proofs.Places.{covered_length}

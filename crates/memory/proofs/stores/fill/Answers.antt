@@ -1,4 +1,4 @@
--- `memory::stores::fill` meets its contract. The loop's invariant: the memory is as it came, with the value stored from the place on as many times as there were turns.
+-- `memory::stores::fill` meets its contract: what its loop keeps says so at the end.
 use mathlib.Core.Bool.{true}
 use mathlib.Core.Path.{sym, ap, ◌∙◌}
 use native.Mathlib.Omega.{arith}

@@ -1,4 +1,4 @@
--- `memory::stores::fill` meets its contract. The loop's invariant: the memory is as it came, with the value stored from the place on as many times as there were turns.
+-- The loop of `memory::stores::fill`: the memory is as it came, with the value stored from the place on as many times as there were turns.
 use Prim.Native.Nat.{◌-◌}
 use lib.ListN.{replicate}
 use Rattle.memory.proofs.Storing.{Storing}

@@ -1,5 +1,4 @@
--- `memory::stores::program` meets its contract. The loop's invariant: the memory is as it came, with the bytes passed programmed from the place on,
--- and whether bits are missing of these, with whether the bytes left are kept as given, decides whether all are.
+-- `memory::stores::program` meets its contract: what its loop keeps says so at the end.
 use mathlib.Core.Path.{refl, sym}
 use native.Mathlib.Omega.{arith}
 use borrow.Author.Tests.{eq-eqb, ne_eqb}

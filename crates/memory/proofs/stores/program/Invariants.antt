@@ -1,4 +1,4 @@
--- `memory::stores::program` meets its contract. The loop's invariant: the memory is as it came, with the bytes passed programmed from the place on,
+-- The loop of `memory::stores::program`: the memory is as it came, with the bytes passed programmed from the place on,
 -- and whether bits are missing of these, with whether the bytes left are kept as given, decides whether all are.
 use Prim.Native.Nat.{◌-◌}
 use lib.ListN.{length}

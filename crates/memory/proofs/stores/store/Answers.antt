@@ -1,4 +1,4 @@
--- `memory::stores::store` meets its contract. The loop's invariant: the memory is as it came, with the bytes passed stored from the place on.
+-- `memory::stores::store` meets its contract: what its loop keeps says so at the end.
 use mathlib.Core.Bool.{true}
 use mathlib.Core.Path.{refl, sym, ap, ◌∙◌}
 use native.Mathlib.Omega.{arith}

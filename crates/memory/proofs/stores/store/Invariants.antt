@@ -1,4 +1,4 @@
--- `memory::stores::store` meets its contract. The loop's invariant: the memory is as it came, with the bytes passed stored from the place on.
+-- The loop of `memory::stores::store`: the memory is as it came, with the bytes passed stored from the place on.
 use Prim.Native.Nat.{◌-◌}
 use lib.ListN.{length}
 use Rattle.memory.proofs.Storing.{Storing}

@@ -1,4 +1,4 @@
--- `stream::Sheet::bytes` meets its contract: byte for byte, in order, with one answer of the system for each.
+-- `stream::Sheet::bytes` meets its contract: what its loop keeps says so at the end.
 use Prim.Native.Nat.{ℕ, ◌+◌, ◌≤◌, ◌<◌}
 use mathlib.Core.Bool.{Bool}
 use mathlib.Core.List.{List, [], ◌∷◌, ◌++◌}

@@ -1,4 +1,4 @@
--- `stream::Sheet::bytes` meets its contract: byte for byte, in order, with one answer of the system for each.
+-- The loop of `stream::Sheet::bytes`: byte for byte, in order, with one answer of the system for each.
 use Prim.Native.Nat.{◌-◌, ◌≤◌}
 use mathlib.Core.Path.{◌≡◌}
 use lib.ListN.{length, take}

@@ -1,4 +1,4 @@
--- `tape::blocks::keep_rest` meets its contract. The loop's invariant: the block is as it came, with the bytes passed at its front.
+-- `tape::blocks::keep_rest` meets its contract: what its loop keeps says so at the end.
 use Prim.Native.Nat.{ℕ, suc, zero, ◌-◌}
 use mathlib.Core.List.{List, [], ◌∷◌, ◌++◌}
 use mathlib.Core.Path.{◌≡◌, refl, sym, ap, ◌∙◌}

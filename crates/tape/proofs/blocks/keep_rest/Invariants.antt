@@ -1,4 +1,4 @@
--- `tape::blocks::keep_rest` meets its contract. The loop's invariant: the block is as it came, with the bytes passed at its front.
+-- The loop of `tape::blocks::keep_rest`: the block is as it came, with the bytes passed at its front.
 use Prim.Native.Nat.{◌-◌}
 use Rattle.tape.proofs.Moving.{Moving}
 use Rattle.tape.proofs.blocks.keep_rest.Given as goal

@@ -1,5 +1,4 @@
--- `tape::player::play` meets its contract. The loop's invariant: what is left behind in the end is what the whole tape leaves, and the player stands on the tape and in the buffer.
--- The measure is what is left of the tape.
+-- `tape::player::play` meets its contract: what its loop keeps says so at the end.
 use mathlib.Core.Path.{◌∙◌}
 use Rattle.tape.proofs.Going.{from_start, goes_further, goes_same, stops_same}
 use Rattle.tape.proofs.player.play.Goals as goal

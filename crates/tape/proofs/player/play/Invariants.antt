@@ -1,4 +1,4 @@
--- `tape::player::play` meets its contract. The loop's invariant: what is left behind in the end is what the whole tape leaves, and the player stands on the tape and in the buffer.
+-- The loop of `tape::player::play`: what is left behind in the end is what the whole tape leaves, and the player stands on the tape and in the buffer.
 -- The measure is what is left of the tape.
 use Prim.Native.Nat.{◌-◌}
 use mathlib.Core.Path.{◌≡◌}

@@ -39,8 +39,8 @@ stride-requires c =
     let at = (goal.at.stride-requires c).After-next_in in
     let message = next at _ c.in-Message.ensures in
     record {
-      written_in_bounds = c.requires.written;
-      message_bound =
+      written = c.requires.written;
+      countable =
           omega (
             arith,
             ap length (body (goal.at.stride-requires c).After-body_of),

@@ -53,11 +53,11 @@ module _ (c : After-send-turn) where
   short : (count : ℕ) → c.send-turn.result.answer ≡ Reply count → place.written + (head_length + count) ≤ length buffer
   short count is =
       let fits = record_short place buffer _ _ _ _ c.send-turn.new.part _ outcome.told count c.send-turn.auto.part is c.send-turn.ensures in
-      omega (arith, mid_len place.written _ buffer (le_refl _), c.requires.written_in_bounds)
+      omega (arith, mid_len place.written _ buffer (le_refl _), c.requires.written)
 
 pub moved-requires : goal.moved-requires
 moved-requires c =
-    record { used = c.requires.message_bound; written = λ count is. omega (arith, short (goal.at.moved-requires c).After-send-turn count is, c.well_formed) }
+    record { used = c.requires.countable; written = λ count is. omega (arith, short (goal.at.moved-requires c).After-send-turn count is, c.well_formed) }
 
 pub returns : goal.returns
 returns c =

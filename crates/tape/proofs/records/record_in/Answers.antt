@@ -43,7 +43,11 @@ module _ (words : After-word_at-kind) where
       )
 
 pub returns-then-tape-length : goal.returns-then-tape-length
-returns-then-tape-length c = by_body (goal.at.returns-then-tape-length c).After-word_at-kind true (lt-ltb (length (tape (goal.at.returns-then-tape-length c).After-word_at-kind)) (head_length + size (goal.at.returns-then-tape-length c).After-word_at-kind) (omega (arith, c.if-tape-length.true)))
+returns-then-tape-length c =
+    let at = (goal.at.returns-then-tape-length c).After-word_at-kind in
+    by_body at true (lt-ltb (length (tape at)) (head_length + size at) (omega (arith, c.if-tape-length.true)))
 
 pub returns : goal.returns
-returns c = by_body (goal.at.returns c).After-word_at-kind false (le-ltb (length (tape (goal.at.returns c).After-word_at-kind)) (head_length + size (goal.at.returns c).After-word_at-kind) (omega (arith, c.if-tape-length.false)))
+returns c =
+    let at = (goal.at.returns c).After-word_at-kind in
+    by_body at false (le-ltb (length (tape at)) (head_length + size at) (omega (arith, c.if-tape-length.false)))

@@ -1,4 +1,4 @@
--- `text::lines::line_end` meets its contract. The loop's invariant: the line that starts where it stands ends where the line does.
+-- `text::lines::line_end` meets its contract: what its loop keeps says so at the end.
 use Prim.Native.Nat.{ℕ, suc, ◌+◌, ◌≤◌, ◌<◌}
 use mathlib.Core.List.{List}
 use mathlib.Core.Path.{◌≡◌, refl, sym, ◌∙◌}

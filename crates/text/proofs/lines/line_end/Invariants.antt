@@ -1,4 +1,4 @@
--- `text::lines::line_end` meets its contract. The loop's invariant: the line that starts where it stands ends where the line does.
+-- The loop of `text::lines::line_end`: the line that starts where it stands ends where the line does.
 use Prim.Native.Nat.{◌-◌}
 use mathlib.Core.Path.{◌≡◌}
 use lib.ListN.{length}

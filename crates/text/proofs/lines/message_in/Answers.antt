@@ -66,13 +66,15 @@ slice_bounds-framed-end c =
 
 pub slice_bounds-framed-end-in-Bytes : goal.slice_bounds-framed-end-in-Bytes
 slice_bounds-framed-end-in-Bytes c =
-    (lies (goal.at.slice_bounds-framed-end-in-Bytes c).After-bytes_in _ c.in-Bytes.is).counts ∙ sym (ap length (first_bytes (goal.at.slice_bounds-framed-end-in-Bytes c).After-bytes_in _ c.in-Bytes.is))
+    let at = (goal.at.slice_bounds-framed-end-in-Bytes c).After-bytes_in in
+    (lies at _ c.in-Bytes.is).counts ∙ sym (ap length (first_bytes at _ c.in-Bytes.is))
 
 pub returns-in-Bytes : goal.returns-in-Bytes
 unfolding framing
 returns-in-Bytes c =
+    let at = (goal.at.returns-in-Bytes c).After-bytes_in in
     let is = c.in-Bytes.is in
-    heard (goal.at.returns-in-Bytes c).After-bytes_in is (c.framed.ensures ∙ ap (λ (bytes : List ℕ). commanding c.args.start bytes (message (goal.at.returns-in-Bytes c).After-bytes_in)) (first_bytes (goal.at.returns-in-Bytes c).After-bytes_in _ is))
+    heard at is (c.framed.ensures ∙ ap (λ (bytes : List ℕ). commanding c.args.start bytes (message at)) (first_bytes at _ is))
 
 pub returns-in-NotHex : goal.returns-in-NotHex
 unfolding framing

@@ -1,4 +1,4 @@
--- `text::numbers::walk` meets its contract. The loop's invariant: reading on behind the number so far brings what reading all does, and so many digits keep it below so many powers of 16.
+-- `text::numbers::walk` meets its contract: what its loop keeps says so at the end.
 use Prim.Native.Nat.{ℕ, ◌+◌, ◌*◌, ◌^◌, ◌≤◌, ◌<◌}
 use mathlib.Core.List.{List}
 use mathlib.Core.Path.{◌≡◌, refl, sym, ◌∙◌}
@@ -42,9 +42,7 @@ one_place_up number place digit small is = rw (add-one place, pow-suc 16 place) 
 
 -- so it does where there is another digit
 small : (c : Else-digit-ge-NO_DIGIT) → c.loop-place.value < 4096
-small c =
-    let test = c in
-    below_16_bits _ _ test.loop-place.invariant.0 (omega (arith, test.loop-place-test.true, test.requires))
+small c = below_16_bits _ _ c.loop-place.invariant.0 (omega (arith, c.loop-place-test.true, c.requires))
 
 pub loop-place-init : goal.loop-place-init
 loop-place-init c = (omega arith, refl)

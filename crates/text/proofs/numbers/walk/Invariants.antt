@@ -1,4 +1,4 @@
--- `text::numbers::walk` meets its contract. The loop's invariant: reading on behind the number so far brings what reading all does, and so many digits keep it below so many powers of 16.
+-- The loop of `text::numbers::walk`: reading on behind the number so far brings what reading all does, and so many digits keep it below so many powers of 16.
 use Prim.Native.Nat.{◌-◌, ◌^◌, ◌<◌}
 use mathlib.Core.Path.{◌≡◌}
 use lib.ListN.{drop, length}

@@ -30,20 +30,23 @@ module _ (c : After-walk) where
 pub returns-then-buffer-count : goal.returns-then-buffer-count
 unfolding bytes_in
 returns-then-buffer-count c =
-    ap (read NoRoom) (same_buffer (goal.at.returns-then-buffer-count c).After-walk)
-    ∙ no_room _ _ _ _ (answered (goal.at.returns-then-buffer-count c).After-walk c.in-Bytes.is) (omega (arith, ap length (same_buffer (goal.at.returns-then-buffer-count c).After-walk), c.if-buffer-count.true))
+    let at = (goal.at.returns-then-buffer-count c).After-walk in
+    ap (read NoRoom) (same_buffer at)
+    ∙ no_room _ _ _ _ (answered at c.in-Bytes.is) (omega (arith, ap length (same_buffer at), c.if-buffer-count.true))
 
 pub returns-else-buffer-count : goal.returns-else-buffer-count
 unfolding bytes_in
 returns-else-buffer-count c =
+    let at = (goal.at.returns-else-buffer-count c).After-walk in
     c.walk-in-Bytes.ensures
-    ∙ ap (walking 0 (said (goal.at.returns-else-buffer-count c).After-walk)) (same_buffer (goal.at.returns-else-buffer-count c).After-walk)
-    ∙ room _ _ _ (answered (goal.at.returns-else-buffer-count c).After-walk c.in-Bytes.is) (omega (arith, ap length (same_buffer (goal.at.returns-else-buffer-count c).After-walk), c.if-buffer-count.false))
+    ∙ ap (walking 0 (said at)) (same_buffer at)
+    ∙ room _ _ _ (answered at c.in-Bytes.is) (omega (arith, ap length (same_buffer at), c.if-buffer-count.false))
 
 pub returns-in-NotHex : goal.returns-in-NotHex
 unfolding bytes_in
 returns-in-NotHex c =
-    ap (read (NotHex _)) (same_buffer (goal.at.returns-in-NotHex c).After-walk) ∙ refused _ _ _ _ (answered (goal.at.returns-in-NotHex c).After-walk c.in-NotHex.is)
+    let at = (goal.at.returns-in-NotHex c).After-walk in
+    ap (read (NotHex _)) (same_buffer at) ∙ refused _ _ _ _ (answered at c.in-NotHex.is)
 
 pub returns-in-NoRoom : goal.returns-in-NoRoom
 returns-in-NoRoom c = no_other _ _ (answered (goal.at.returns-in-NoRoom c).After-walk c.in-NoRoom.is)

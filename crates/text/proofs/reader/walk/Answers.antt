@@ -1,4 +1,4 @@
--- `text::reader::walk` meets its contract. The loop's invariant: walking on from where it stands brings what walking from the start does.
+-- `text::reader::walk` meets its contract: what its loop keeps says so at the end.
 use Prim.Native.Nat.{ℕ, suc, ◌+◌}
 use mathlib.Core.List.{List, []}
 use mathlib.Core.Path.{◌≡◌, refl, sym, ap, subst, ◌∙◌}
@@ -45,11 +45,13 @@ loop-place-init c = (omega arith, refl, refl)
 
 pub returns-in-End : goal.returns-in-End
 returns-in-End c =
-    sym (well_ended _ _) ∙ put_in (goal.at.returns-in-End c).After-next_in (ends well) (stands (goal.at.returns-in-End c).After-next_in c.in-End.is)
+    let at = (goal.at.returns-in-End c).After-next_in in
+    sym (well_ended _ _) ∙ put_in at (ends well) (stands at c.in-End.is)
 
 pub returns-in-Wrong : goal.returns-in-Wrong
 returns-in-Wrong c =
-    sym (badly_ended _ _ _) ∙ put_in (goal.at.returns-in-Wrong c).After-next_in _ (stands (goal.at.returns-in-Wrong c).After-next_in c.in-Wrong.is)
+    let at = (goal.at.returns-in-Wrong c).After-next_in in
+    sym (badly_ended _ _ _) ∙ put_in at _ (stands at c.in-Wrong.is)
 
 pub loop-place-smaller-in-Blank : goal.loop-place-smaller-in-Blank
 loop-place-smaller-in-Blank c =
@@ -57,8 +59,9 @@ loop-place-smaller-in-Blank c =
 
 pub loop-place-preserved-in-Blank : goal.loop-place-preserved-in-Blank
 loop-place-preserved-in-Blank c =
-    let blank = stands (goal.at.loop-place-preserved-in-Blank c).After-next_in c.in-Blank.is in
-    (omega (arith, blank.0, c.loop-place.invariant.0), c.loop-place.invariant.1, put_in (goal.at.loop-place-preserved-in-Blank c).After-next_in _ blank.1)
+    let at = (goal.at.loop-place-preserved-in-Blank c).After-next_in in
+    let blank = stands at c.in-Blank.is in
+    (omega (arith, blank.0, c.loop-place.invariant.0), c.loop-place.invariant.1, put_in at _ blank.1)
 
 pub overflow_add-count : goal.overflow_add-count
 overflow_add-count c =
@@ -70,11 +73,12 @@ loop-place-smaller c =
 
 pub loop-place-preserved : goal.loop-place-preserved
 loop-place-preserved c =
-    let byte = stands (goal.at.loop-place-preserved c).After-next_in c.in-Byte.is in
+    let at = (goal.at.loop-place-preserved c).After-next_in in
+    let byte = stands at c.in-Byte.is in
     let stored = c.put.ensures in (
       omega (arith, byte.0, c.loop-place.invariant.0),
       c.put.auto.buffer ∙ c.loop-place.invariant.1,
-      ap (walking _ _) stored ∙ sym (one_more _ _ _ _) ∙ put_in (goal.at.loop-place-preserved c).After-next_in _ byte.1,
+      ap (walking _ _) stored ∙ sym (one_more _ _ _ _) ∙ put_in at _ byte.1,
     )
 
 pub returns : goal.returns

@@ -1,4 +1,4 @@
--- `text::reader::walk` meets its contract. The loop's invariant: walking on from where it stands brings what walking from the start does.
+-- The loop of `text::reader::walk`: walking on from where it stands brings what walking from the start does.
 use Prim.Native.Nat.{◌-◌, ◌≤◌}
 use mathlib.Core.Path.{◌≡◌}
 use lib.ListN.{length, drop}

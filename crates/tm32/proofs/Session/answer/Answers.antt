@@ -29,12 +29,15 @@ let_in device room says = lent device room (none_fails_where_passed 0 (call_chec
 
 pub returns-then-number-ne0 : goal.returns-then-number-ne0
 returns-then-number-ne0 c =
-    unheard _ (device (goal.at.returns-then-number-ne0 c).After-refusal-number) _ _ _ (says (goal.at.returns-then-number-ne0 c).After-refusal-number) (ne_eqb _ _ c.if-number-ne0.true) c.refused.ensures
+    let at = (goal.at.returns-then-number-ne0 c).After-refusal-number in
+    unheard _ (device at) _ _ _ (says at) (ne_eqb _ _ c.if-number-ne0.true) c.refused.ensures
 
 pub respond-requires : goal.respond-requires
 respond-requires c =
-    let_in (device (goal.at.respond-requires c).After-refusal-number) _ (says (goal.at.respond-requires c).After-refusal-number ∙ c.if-number-ne0.false)
+    let at = (goal.at.respond-requires c).After-refusal-number in
+    let_in (device at) _ (says at ∙ c.if-number-ne0.false)
 
 pub returns : goal.returns
 returns c =
-    c.respond.ensures ∙ heard _ (device (goal.at.returns c).After-refusal-number) _ _ (says (goal.at.returns c).After-refusal-number ∙ c.if-number-ne0.false)
+    let at = (goal.at.returns c).After-refusal-number in
+    c.respond.ensures ∙ heard _ (device at) _ _ (says at ∙ c.if-number-ne0.false)

@@ -49,24 +49,14 @@ returns-in-Get c =
 
 -- ---- Read
 
-pub work-bytes-requires : goal.work-bytes-requires
-work-bytes-requires c =
-    let at = (goal.at.work-bytes-requires c).Start in
-    record {
-      flash_len = (lent at).flash;
-      ram_len = (lent at).ram;
-      nvr_len = (lent at).nvr;
-      count_value = (read_accepted _ _ _ _ (passes at c.in-Read.is)).inside;
-    }
+pub work-bytes-requires-clause-inside : goal.work-bytes-requires-clause-inside
+work-bytes-requires-clause-inside c = (read_accepted _ _ _ _ (passes (goal.at.work-bytes-requires-clause-inside c).Start c.in-Read.is)).inside
 
-pub reply_with-requires-in-Read : goal.reply_with-requires-in-Read
-reply_with-requires-in-Read c =
-    let at = (goal.at.reply_with-requires-in-Read c).Start in
+pub reply_with-requires-in-Read-clause-short : goal.reply_with-requires-in-Read-clause-short
+reply_with-requires-in-Read-clause-short c =
+    let at = (goal.at.reply_with-requires-in-Read-clause-short c).Start in
     let known = read_accepted _ _ _ _ (passes at c.in-Read.is) in
-    record {
-      payload_len_bound = omega (arith, ap length c.work-bytes.ensures, read_length (memory at) c.in-Read.address c.in-Read.count, known.short);
-      reply_room_in_bounds = (lent at).space;
-    }
+    omega (arith, ap length c.work-bytes.ensures, read_length (memory at) c.in-Read.address c.in-Read.count, known.short)
 
 pub returns-in-Read : goal.returns-in-Read
 unfolding work
@@ -75,13 +65,10 @@ returns-in-Read c =
 
 -- ---- Read options
 
-pub reply_with-requires-in-ReadOptions : goal.reply_with-requires-in-ReadOptions
-reply_with-requires-in-ReadOptions c =
-    let at = (goal.at.reply_with-requires-in-ReadOptions c).Start in
-    record {
-      payload_len_bound = omega (arith, ap length c.work-in-ReadOptions.ensures, option_bytes_length (memory at).nvr (lent at).nvr);
-      reply_room_in_bounds = (lent at).space;
-    }
+pub reply_with-requires-in-ReadOptions-clause-short : goal.reply_with-requires-in-ReadOptions-clause-short
+reply_with-requires-in-ReadOptions-clause-short c =
+    let at = (goal.at.reply_with-requires-in-ReadOptions-clause-short c).Start in
+    omega (arith, ap length c.work-in-ReadOptions.ensures, option_bytes_length (memory at).nvr (lent at).nvr)
 
 pub returns-in-ReadOptions : goal.returns-in-ReadOptions
 unfolding work

@@ -65,11 +65,11 @@ work-requires c =
     let to_write = c.bytes_to_write-bytes.ensures ∙ ap (drop 5) c.data_of.ensures in
     let counted = ap length to_write ∙ (shaped at c.in-Write.is).counted in
     record {
-      flash_len = (lent at).flash;
-      ram_len = (lent at).ram;
-      nvr_len = (lent at).nvr;
-      bytes_len_bound = omega (arith, counted, known.short);
-      bytes_value = ap (in_user_region _) counted ∙ known.inside;
+      flash_sized = (lent at).flash;
+      ram_sized = (lent at).ram;
+      nvr_sized = (lent at).nvr;
+      short = omega (arith, counted, known.short);
+      inside = ap (in_user_region _) counted ∙ known.inside;
     }
 
 pub returns-in-Write : goal.returns-in-Write
@@ -84,52 +84,41 @@ returns-in-Write c =
 
 -- ---- Memory CRC
 
-pub work-requires-in-MemoryCrc : goal.work-requires-in-MemoryCrc
-work-requires-in-MemoryCrc c =
-    let at = (goal.at.work-requires-in-MemoryCrc c).Start in
-    record {
-      flash_len = (lent at).flash;
-      ram_len = (lent at).ram;
-      nvr_len = (lent at).nvr;
-      count_value = crc_accepted _ _ _ _ _ (passes at c.in-MemoryCrc.is);
-    }
+pub work-requires-in-MemoryCrc-clause-inside : goal.work-requires-in-MemoryCrc-clause-inside
+work-requires-in-MemoryCrc-clause-inside c = crc_accepted _ _ _ _ _ (passes (goal.at.work-requires-in-MemoryCrc-clause-inside c).Start c.in-MemoryCrc.is)
 
 pub returns-in-MemoryCrc : goal.returns-in-MemoryCrc
 unfolding work
 returns-in-MemoryCrc c =
-    changed_as c.args.settings (memory (goal.at.returns-in-MemoryCrc c).Start) (data_of (message (goal.at.returns-in-MemoryCrc c).Start)) c.in-MemoryCrc.is (λ session. refl) (λ session. c.work-in-MemoryCrc.ensures)
+    let at = (goal.at.returns-in-MemoryCrc c).Start in
+    changed_as c.args.settings (memory at) (data_of (message at)) c.in-MemoryCrc.is (λ session. refl) (λ session. c.work-in-MemoryCrc.ensures)
 
 -- ---- Erase
 
-pub work-requires-in-Erase : goal.work-requires-in-Erase
-work-requires-in-Erase c =
-    let at = (goal.at.work-requires-in-Erase c).Start in
-    record { flash_len = (lent at).flash; count_bound = (erase_accepted _ _ _ _ (passes at c.in-Erase.is)).inside }
+pub work-requires-in-Erase-clause-inside : goal.work-requires-in-Erase-clause-inside
+work-requires-in-Erase-clause-inside c = (erase_accepted _ _ _ _ (passes (goal.at.work-requires-in-Erase-clause-inside c).Start c.in-Erase.is)).inside
 
 pub returns-in-Erase : goal.returns-in-Erase
 unfolding work
 returns-in-Erase c =
-    changed_as c.args.settings (memory (goal.at.returns-in-Erase c).Start) (data_of (message (goal.at.returns-in-Erase c).Start)) c.in-Erase.is
-    (λ session. ap (λ (flash : List ℕ). memory_of flash (memory (goal.at.returns-in-Erase c).Start).ram (memory (goal.at.returns-in-Erase c).Start).nvr) c.work-in-Erase.ensures) (λ session. refl)
+    let at = (goal.at.returns-in-Erase c).Start in
+    changed_as c.args.settings (memory at) (data_of (message at)) c.in-Erase.is
+    (λ session. ap (λ (flash : List ℕ). memory_of flash (memory at).ram (memory at).nvr) c.work-in-Erase.ensures) (λ session. refl)
 
 -- ---- Write options
 
-pub work-requires-in-WriteOptions : goal.work-requires-in-WriteOptions
+pub work-requires-in-WriteOptions-clause-options_sized : goal.work-requires-in-WriteOptions-clause-options_sized
 unfolding Shaped
-work-requires-in-WriteOptions c =
-    let at = (goal.at.work-requires-in-WriteOptions c).Start in
-    record {
-      flash_len = (lent at).flash;
-      nvr_len = (lent at).nvr;
-      options_len = ap length c.data_of-in-WriteOptions.ensures ∙ shaped at c.in-WriteOptions.is;
-    }
+work-requires-in-WriteOptions-clause-options_sized c =
+    ap length c.data_of-in-WriteOptions.ensures ∙ shaped (goal.at.work-requires-in-WriteOptions-clause-options_sized c).Start c.in-WriteOptions.is
 
 pub returns-in-WriteOptions : goal.returns-in-WriteOptions
 unfolding work with_options
 returns-in-WriteOptions c =
-    changed_as c.args.settings (memory (goal.at.returns-in-WriteOptions c).Start) (data_of (message (goal.at.returns-in-WriteOptions c).Start)) c.in-WriteOptions.is
-    (λ session. ap₂ (λ (flash nvr : List ℕ). memory_of flash (memory (goal.at.returns-in-WriteOptions c).Start).ram nvr) c.work-in-WriteOptions.ensures.0 c.work-in-WriteOptions.ensures.1
-    ∙ ap (with_options (memory (goal.at.returns-in-WriteOptions c).Start)) c.data_of-in-WriteOptions.ensures)
+    let at = (goal.at.returns-in-WriteOptions c).Start in
+    changed_as c.args.settings (memory at) (data_of (message at)) c.in-WriteOptions.is
+    (λ session. ap₂ (λ (flash nvr : List ℕ). memory_of flash (memory at).ram nvr) c.work-in-WriteOptions.ensures.0 c.work-in-WriteOptions.ensures.1
+    ∙ ap (with_options (memory at)) c.data_of-in-WriteOptions.ensures)
     (λ session. refl)
 
 -- ---- the others

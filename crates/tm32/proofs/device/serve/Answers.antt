@@ -27,13 +27,8 @@ returns-then-number c =
     let at = (goal.at.returns-then-number c).After-verdict-number in
     answers _ _ _ c.reply.ensures (refuses _ (device at) _ _ (verdict_is at ∙ ap (verdict_on (device at)) c.request_in-request.ensures) c.if-number.true)
 
-pub work-requires-2 : goal.work-requires-2
-work-requires-2 c =
-    record {
-      lent = c.requires;
-      asked = c.request_in-request.ensures;
-      passes = sym (verdict_is (goal.at.work-requires-2 c).After-verdict-number) ∙ c.if-number.false;
-    }
+pub work-requires-2-clause-passes : goal.work-requires-2-clause-passes
+work-requires-2-clause-passes c = sym (verdict_is (goal.at.work-requires-2-clause-passes c).After-verdict-number) ∙ c.if-number.false
 
 pub returns : goal.returns
 returns c =

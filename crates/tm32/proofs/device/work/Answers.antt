@@ -2,10 +2,7 @@
 use Prim.Native.Nat.{ℕ}
 use mathlib.Core.List.{List, []}
 use mathlib.Core.Path.{◌≡◌, refl, ap, ◌∙◌}
-use native.Mathlib.Nat.{le_refl}
-use borrow.Author.Rules.{rules}
 use Rattle.frame.specs.Frame.{frame}
-use Rattle.tm32.specs.After.{reply_room}
 use Rattle.tm32.specs.Device.{Memory, device_of, memory_of}
 use Rattle.tm32_asks.specs.Options.{option_bytes}
 use Rattle.tm32.specs.Promises.{Changed, GoesOn, LetThrough}
@@ -67,21 +64,11 @@ module _ (c : Start) where
         passes = let_through (device_of c.args.session memory) refl c.requires.passes;
       }
 
-pub change-result-requires : goal.change-result-requires
-change-result-requires c =
-    let had = c.requires.lent in
-    record {
-      lent = record { flash = had.flash; ram = had.ram; nvr = had.nvr; space = le_refl reply_room };
-      asked = c.requires.asked;
-      let_through = lets (goal.at.change-result-requires c).Start;
-    }
+pub change-result-requires-clause-let_through : goal.change-result-requires-clause-let_through
+change-result-requires-clause-let_through c = lets (goal.at.change-result-requires-clause-let_through c).Start
 
-pub answered-requires : goal.answered-requires
-answered-requires c =
-    record {
-      lent = record { flash = search rules; ram = search rules; nvr = search rules; space = c.requires.lent.space };
-      let_through = lets (goal.at.answered-requires c).Start;
-    }
+pub answered-requires-clause-let_through : goal.answered-requires-clause-let_through
+answered-requires-clause-let_through c = lets (goal.at.answered-requires-clause-let_through c).Start
 
 pub returns : goal.returns
 returns c =

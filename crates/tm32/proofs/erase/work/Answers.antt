@@ -8,4 +8,4 @@ use Rattle.tm32.proofs.erase.work.Goals as goal
 pub returns : goal.returns
 unfolding erased
 returns c =
-    fill_erases page_size blank (lit< tt) page_count c.args.flash.now c.requires.flash_len _ _ c.requires.count_bound _ _ c.fill.ensures
+    fill_erases page_size blank (lit< tt) page_count c.args.flash.now c.requires.flash_sized _ _ c.requires.inside _ _ c.fill.ensures

@@ -12,14 +12,8 @@ use Rattle.tm32.proofs.memory_crc.work.Goals as goal
 of_bytes : (start : ℕ) {sum : ℕ} (bytes : List ℕ) {others : List ℕ} → sum ≡ crc start bytes → bytes ≡ others → crc start others ≡ sum
 of_bytes start bytes worked same = sym (worked ∙ ap (crc start) same)
 
-pub work-requires : goal.work-requires
-work-requires c =
-    record {
-      flash_len = c.requires.flash_len;
-      ram_len = c.requires.ram_len;
-      nvr_len = c.requires.nvr_len;
-      count_value = user_is_read _ _ c.requires.count_value;
-    }
+pub work-requires-clause-inside : goal.work-requires-clause-inside
+work-requires-clause-inside c = user_is_read _ _ c.requires.inside
 
 pub returns-then-crc-wanted : goal.returns-then-crc-wanted
 unfolding compared

@@ -22,7 +22,7 @@ of_two flash ram nvr address count inside = either (in_flash address count) (in_
 
 pub range_of-requires : goal.range_of-requires
 range_of-requires c =
-    held _ _ _ c.requires.nvr_len (sym c.in_nvr.ensures ∙ c.if-in_nvr.true)
+    held _ _ _ c.requires.nvr_sized (sym c.in_nvr.ensures ∙ c.if-in_nvr.true)
 
 pub returns-then-in_nvr : goal.returns-then-in_nvr
 unfolding bytes_at
@@ -30,15 +30,10 @@ returns-then-in_nvr c =
     let apart = nvr_apart _ _ (sym c.in_nvr.ensures ∙ c.if-in_nvr.true) in
     c.range_of.ensures ∙ simp (apart.0, apart.1)
 
-pub picked-requires : goal.picked-requires
-picked-requires c =
-    record {
-      flash_len = c.requires.flash_len;
-      ram_len = c.requires.ram_len;
-      count_value = not_in_nvr _ _ c.requires.count_value (sym c.in_nvr.ensures ∙ c.if-in_nvr.false);
-    }
+pub picked-requires-clause-inside : goal.picked-requires-clause-inside
+picked-requires-clause-inside c = not_in_nvr _ _ c.requires.inside (sym c.in_nvr.ensures ∙ c.if-in_nvr.false)
 
 pub returns : goal.returns
 returns c =
-    let two = not_in_nvr _ _ c.requires.count_value (sym c.in_nvr.ensures ∙ c.if-in_nvr.false) in
+    let two = not_in_nvr _ _ c.requires.inside (sym c.in_nvr.ensures ∙ c.if-in_nvr.false) in
     c.picked.ensures ∙ of_two _ _ _ _ _ two

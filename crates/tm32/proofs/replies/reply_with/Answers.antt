@@ -1,8 +1,7 @@
 -- `tm32::replies::reply_with` meets its contract: the data is short and there is room, so the writer lays the frame and answers with its length. Its other answers do not come.
-use Prim.Native.Nat.{ℕ}
+use Prim.Native.Nat.{ℕ, ◌≤◌}
 use mathlib.Core.List.{List}
 use mathlib.Core.Path.{◌≡◌, ap, ◌∙◌}
-use Prim.Native.Nat.{◌≤◌}
 use native.Mathlib.Omega.{arith}
 use lib.ListN.{length}
 use Rattle.frame.specs.Frame.{Outcome, frame, laid, outcome, writing}
@@ -36,10 +35,10 @@ replied start result session payload buffer after short room answer did =
     }
 
 pub returns-in-Frame : goal.returns-in-Frame
-returns-in-Frame c = replied _ _ _ _ _ _ c.requires.payload_len_bound c.requires.reply_room_in_bounds (Frame _) c.in-Frame.ensures
+returns-in-Frame c = replied _ _ _ _ _ _ c.requires.short c.requires.room (Frame _) c.in-Frame.ensures
 
 pub returns-in-TooLong : goal.returns-in-TooLong
-returns-in-TooLong c = replied _ _ _ _ _ _ c.requires.payload_len_bound c.requires.reply_room_in_bounds TooLong c.in-TooLong.ensures
+returns-in-TooLong c = replied _ _ _ _ _ _ c.requires.short c.requires.room TooLong c.in-TooLong.ensures
 
 pub returns-in-NoRoom : goal.returns-in-NoRoom
-returns-in-NoRoom c = replied _ _ _ _ _ _ c.requires.payload_len_bound c.requires.reply_room_in_bounds NoRoom c.in-NoRoom.ensures
+returns-in-NoRoom c = replied _ _ _ _ _ _ c.requires.short c.requires.room NoRoom c.in-NoRoom.ensures

@@ -103,11 +103,11 @@ returns-then-in_ram c =
 
 pub overflow_sub-address-2 : goal.overflow_sub-address-2
 overflow_sub-address-2 c =
-    let lies = lies_in_nvr _ _ c.requires.bytes_value (sym c.in_flash.ensures ∙ c.if-in_flash.false) (sym c.in_ram.ensures ∙ c.if-in_ram.false) in
+    let lies = lies_in_nvr _ _ c.requires.inside (sym c.in_flash.ensures ∙ c.if-in_flash.false) (sym c.in_ram.ensures ∙ c.if-in_ram.false) in
     omega (arith, lies)
 
 pub returns : goal.returns
 returns c =
     let outside = sym c.in_flash.ensures ∙ c.if-in_flash.false in
     let outside' = sym c.in_ram.ensures ∙ c.if-in_ram.false in
-    into_nvr _ _ _ _ _ _ outside outside' (omega (arith, lies_in_nvr _ _ c.requires.bytes_value outside outside')) _ _ c.store-2.ensures
+    into_nvr _ _ _ _ _ _ outside outside' (omega (arith, lies_in_nvr _ _ c.requires.inside outside outside')) _ _ c.store-2.ensures

@@ -1,4 +1,4 @@
--- `tm32::write_options::wipe` meets its contract. The loop's invariant: the flash is as it came, with the wipe gone over as many pages as there were turns.
+-- `tm32::write_options::wipe` meets its contract: what its loop keeps says so at the end.
 use Prim.Native.Nat.{ℕ, ◌+◌, ◌<◌}
 use mathlib.Core.Bool.{Bool, cond}
 use mathlib.Core.List.{List}
@@ -37,9 +37,6 @@ turn old new flash page test before after sized had told inv did =
 pub loop-page-init : goal.loop-page-init
 unfolding wiped
 loop-page-init c = (sym (wipe_of_none page_size blank _ 0 _ (λ page before. absurd (omega arith))), omega arith)
-
-pub work-requires : goal.work-requires
-work-requires c = record { flash_len = long (goal.at.work-requires c).At-loop-page; count_bound = omega arith }
 
 pub loop-page-preserved : goal.loop-page-preserved
 loop-page-preserved c =

@@ -1,4 +1,4 @@
--- `tm32::write_options::wipe` meets its contract. The loop's invariant: the flash is as it came, with the wipe gone over as many pages as there were turns.
+-- The loop of `tm32::write_options::wipe`: the flash is as it came, with the wipe gone over as many pages as there were turns.
 use Prim.Native.Nat.{◌-◌, ◌≤◌}
 use mathlib.Core.Path.{◌≡◌}
 use Rattle.tm32_asks.specs.Map.{page_count}
