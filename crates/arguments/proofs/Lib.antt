@@ -1,2 +1,3 @@
--- Command lines worked out, and mistakes that somebody might make.
+-- What the tactics go by, command lines worked out, and mistakes that somebody might make.
+pub mod Laws
 mod Examples

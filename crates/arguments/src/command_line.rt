@@ -1,14 +1,24 @@
 // The start value of a CRC, from the command line.
 ghost use Rattle.std.specs.Prelude.{◌≡◌};
-ghost use Rattle.memory.specs.Stores.{same};
 ghost use Rattle.arguments.specs.CommandLine.{Answers, start_in};
 
-use crate::{Asked, Told};
+use crate::ArgumentError;
 use std::env::{Env, FillError};
-use text::Word;
 
 // The word that a start value stands behind.
-const NAME: [u8; 7] = [b'-', b'-', b's', b't', b'a', b'r', b't'];
+const NAME: &[u8] = b"--start";
+
+// What was found on the command line, and the start value that it asks for.
+#[derive(Clone, Copy, Debug, PartialEq, Eq)]
+pub struct Told {
+    // How many words there are, the program's own name among them.
+    pub count: usize,
+    // How long the second and the third are, whose bytes stand at the start of the two buffers.
+    // Lengths and no slices: the two buffers are lent, and the contract speaks of them as they are handed back.
+    pub name: usize,
+    pub value: usize,
+    pub asked: Result<u16, ArgumentError>,
+}
 
 // The start value that this program's command line asks for, and another where it asks for none. What is refused is told on
 // standard error. A word that is missing, or longer than the buffer that is lent for it, counts as an empty one.
@@ -24,7 +34,9 @@ pub fn start(rt: &(impl Env + Eprint), otherwise: u16, name: &mut [u8], value: &
         &name[..name_length],
         &value[..value_length],
     );
-    complain(rt, asked);
+    if let Err(error) = asked {
+        let _ = rt.eprintln(error);
+    }
     Told {
         count,
         name: name_length,
@@ -36,58 +48,25 @@ pub fn start(rt: &(impl Env + Eprint), otherwise: u16, name: &mut [u8], value: &
 // How many words there are on the command line, the program's own name among them. Only whether a word is there is looked at, so no
 // room is lent for it.
 fn words(rt: &impl Env) -> usize {
-    for i in 0..usize::MAX {
-        if let Err(FillError::NotPresent) = rt.arg(i, &mut []) {
-            return i;
-        }
-    }
-    usize::MAX
+    (0..usize::MAX)
+        .find(|i| matches!(rt.arg(*i, &mut []), Err(FillError::NotPresent)))
+        .unwrap_or(usize::MAX)
 }
 
 // The start value that is asked for by so many arguments, the program's own name among them, of which the second and the third
 // are these.
-#[tactic(auto, unfolding(crate::specs::CommandLine::start_in, crate::specs::CommandLine::told))]
-pub fn start_in(otherwise: u16, count: usize, name: &[u8], value: &[u8]) -> Asked
+#[tactic(auto, using(crate::proofs::Laws::alike), unfolding(crate::specs::CommandLine::start_in, crate::specs::CommandLine::told))]
+pub fn start_in(
+    otherwise: u16,
+    count: usize,
+    name: &[u8],
+    value: &[u8],
+) -> Result<u16, ArgumentError>
     ensures { result ≡ start_in otherwise count name.now value.now }
 {
-    if count < 2 {
-        return Asked::Start { value: otherwise };
+    match count {
+        0 | 1 => Ok(otherwise),
+        3 if name == NAME => text::word_in(value).ok_or(ArgumentError::NotHex),
+        _ => Err(ArgumentError::NoSuch),
     }
-    if count != 3 {
-        return Asked::NoSuch;
-    }
-    if !equal(name, &NAME) {
-        return Asked::NoSuch;
-    }
-    match text::word_in(value) {
-        Word::Value { value: number } => Asked::Start { value: number },
-        Word::NotHex => Asked::NotHex,
-    }
-}
-
-// Whether two lists of bytes are the same.
-fn equal(one: &[u8], other: &[u8]) -> bool
-    ensures { result ≡ same one.now other.now }
-{
-    if one.len() != other.len() {
-        return false;
-    }
-    let mut place = 0;
-    while place < one.len() {
-        if one[place] != other[place] {
-            return false;
-        }
-        place += 1;
-    }
-    true
-}
-
-fn complain(rt: &impl Eprint, answer: Asked) {
-    let _ = match answer {
-        Asked::Start { value: _ } => Ok(()),
-        Asked::NotHex => rt.eprintln("--start: the start value is not one to four hex digits"),
-        Asked::NoSuch => {
-            rt.eprintln("the command line takes --start and a start value, and nothing else")
-        }
-    };
 }

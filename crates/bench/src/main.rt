@@ -2,34 +2,28 @@
 // `--start` the command line may give another start value of the CRC than the fresh device has.
 #![tactic(auto)]
 
-mod blocks;
+mod errors;
 mod shell;
 
-use arguments::Asked;
-use tm32::Settings;
+use tm32::{FLASH_LENGTH, LentMemory, NVR_LENGTH, RAM_LENGTH, Settings};
 
 fn main(rt: HostRuntime) {
     let fresh = tape::fresh_settings();
     let told = arguments::start(&rt, fresh.start, &mut [0; 8], &mut [0; 8]);
-    let asked = told.asked;
-    if let Asked::Start { value } = asked {
-        play(&rt, fresh.starting_from(value));
+    if let Ok(start) = told.asked {
+        play(&rt, fresh.starting_from(start));
     }
 }
 
 fn play(rt: &(impl Input + Print + Eprint), settings: Settings) {
-    let mut flash = blocks::flash();
-    let mut ram = blocks::ram();
-    let mut nvr = blocks::nvr();
-    let mut block = blocks::block();
-    let mut replies = blocks::block();
-    shell::run(
-        rt,
-        settings,
-        &mut flash,
-        &mut ram,
-        &mut nvr,
-        &mut block,
-        &mut replies,
-    );
+    let mut memory = LentMemory {
+        flash: &mut [0; FLASH_LENGTH as usize],
+        ram: &mut [0; RAM_LENGTH as usize],
+        nvr: &mut [0; NVR_LENGTH as usize],
+    };
+    let mut block = [0; 65536];
+    let mut replies = [0; 65536];
+    if let Err(error) = shell::run(rt, settings, &mut memory, &mut block, &mut replies) {
+        let _ = rt.eprintln(error);
+    }
 }

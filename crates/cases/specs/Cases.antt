@@ -1,10 +1,9 @@
 -- A worked case: what is sent to which device, and all that must come of it. And the devices and option bytes that the cases start on and end with, put together here apart from the
 -- definitions under trial; only the fresh device is theirs, and the first cases hold it to a list that is put together here.
 use Rattle.std.specs.Prelude.{ℕ, ◌-◌, List, [], ◌∷◌, ◌++◌, length, replicate}
-use Rattle.tm32.specs.After.{After, after, after_of}
+use Rattle.tm32.specs.After.{After, Reply, after, after_of}
 use Rattle.tm32.specs.Device.{Device, device_of, memory_of, session_of, with_session}
 use Rattle.tm32.specs.Fresh.{fresh_device, fresh_settings}
-use Rattle.tm32.specs.declared.Answer.TheVariants.{Reply}
 use Rattle.tm32_asks.specs.declared.Link.TheVariants.{Uart}
 use Rattle.tm32.specs.declared.Settings.{Settings}
 use Rattle.tm32.specs.declared.State.{State}

@@ -26,7 +26,7 @@ use Rattle.tm32.specs.Run.{run}
 use Rattle.tm32.specs.declared.Settings.{Settings}
 use Rattle.tape.specs.Play.{play_tape, record_room}
 use Rattle.tape.specs.Script.{script_of}
-use Rattle.tape.specs.declared.Stop.TheVariants.{Room, Refused}
+use Rattle.tape.specs.Stops.{Room, Refused}
 use Rattle.tape.proofs.Ways.{goes_so, one_way}
 use Rattle.demands.specs.BenchTape.InPieces.{Piece, Roomy, all_of, played_in_pieces, message_count, playing_on}
 use Rattle.demands.specs.BenchTape.Pieces.{pieces_go, turns_go}

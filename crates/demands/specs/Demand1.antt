@@ -14,7 +14,7 @@ use Rattle.std.specs.Prelude.{ℕ, true, List, [], ◌≡◌, length}
 use Rattle.std.proofs.Math.Path.{refl}
 use Rattle.std.proofs.Common.{◌∙◌}
 use Rattle.frame.specs.Frame.{data_of, frame}
-use Rattle.tm32.specs.After.{after, call_checks, no_reply, replied, tell, telling}
+use Rattle.tm32.specs.After.{Refused, after, call_checks, no_reply, replied, tell, telling}
 use Rattle.tm32_asks.specs.Checks.{checks_of, none_fails, numbers_of}
 use Rattle.tm32.specs.Device.{Device}
 use Rattle.tm32.specs.OptionMessages.{is_talking}
@@ -22,7 +22,6 @@ use Rattle.tm32_asks.specs.Options.{option_bytes}
 use Rattle.tm32_asks.specs.Request.{request_in}
 use Rattle.tm32.specs.Respond.{refuse, reply_to, respond}
 use Rattle.tm32.specs.Work.{compared, work}
-use Rattle.tm32.specs.declared.Answer.TheVariants.{Refused}
 use Rattle.tm32_asks.specs.declared.Link.{Link}
 use Rattle.tm32_asks.specs.declared.Request.{Request}
 use Rattle.tm32.specs.declared.Settings.{Settings}

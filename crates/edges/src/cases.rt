@@ -1,158 +1,72 @@
 // The cases, line by line, on the device.
-ghost use Rattle.std.specs.Prelude.{◌≤◌};
+use crate::bench::{Bench, HELLO};
+use crate::lines::{self, Line, Question, Setting};
+use crate::report::Report;
+use crate::show::{Runs, SessionLine};
+use std::io;
+use tm32::Refusal;
 
-use crate::bench::{BUFFER_ROOM, Bench, FLASH_ROOM, NVR_ROOM, RAM_ROOM};
-use crate::lines::Line;
-use crate::scan::find;
-use crate::{lines, report};
-use tape::Begun;
-use tm32::{Session, Settings};
+// What answers the handshake, and the result of work that is done.
+const HELLO_BACK: u8 = 0x79;
 
-// What a reply buffer holds as it is lent.
-const UNTOUCHED: u8 = 0xEE;
+const WORK_DONE: u8 = 0x90;
 
 // All lines of a text.
-pub(crate) fn run(
-    rt: &impl Print,
-    text: &[u8],
-    flash: &mut [u8; FLASH_ROOM],
-    ram: &mut [u8; RAM_ROOM],
-    nvr: &mut [u8; NVR_ROOM],
-    buffer: &mut [u8; BUFFER_ROOM],
-) {
-    let mut bench = Bench::new(false);
-    let mut at = 0;
-    while at < text.len() {
-        let end = find(text, at, b'\n');
-        let next = end + 1;
-        bench = obeyed(rt, bench, &text[at..end], flash, ram, nvr, buffer);
-        at = next;
+pub(crate) fn run(rt: &impl Print, text: &[u8]) -> io::Result<()> {
+    let mut bench = Bench::new();
+    let mut report = Report::new(rt);
+    for line in text.split(|c| *c == b'\n') {
+        obey(&mut bench, &mut report, line)?;
     }
-    report::end_line(rt, bench.open);
+    report.end_line()
 }
 
-// One line: what it sets up, then its message or its question.
-fn obeyed(
-    rt: &impl Print,
-    bench: Bench,
-    text: &[u8],
-    flash: &mut [u8; FLASH_ROOM],
-    ram: &mut [u8; RAM_ROOM],
-    nvr: &mut [u8; NVR_ROOM],
-    buffer: &mut [u8; BUFFER_ROOM],
-) -> Bench {
+// One line.
+fn obey<R: Print>(bench: &mut Bench, report: &mut Report<R>, text: &[u8]) -> io::Result<()> {
     let mut room = [0; lines::ROOM];
-    let line = lines::line_in(bench.start, text, &mut room);
-    report::words(rt, bench.open, line.kind, text);
-    let message = stream::first(&room, line.length);
-    step(
-        rt,
-        bench.set_up(line),
-        line,
-        message,
-        flash,
-        ram,
-        nvr,
-        buffer,
-    )
-}
-
-// A line that sends a message, or that asks to see something.
-fn step(
-    rt: &impl Print,
-    bench: Bench,
-    line: Line,
-    message: &[u8],
-    flash: &mut [u8; FLASH_ROOM],
-    ram: &mut [u8; RAM_ROOM],
-    nvr: &mut [u8; NVR_ROOM],
-    buffer: &mut [u8; BUFFER_ROOM],
-) -> Bench {
-    if line.sends() {
-        let room = buffer.len();
-        memory::fill(buffer, 0, room, UNTOUCHED);
-        let next = lent(
-            bench,
-            line.kind == lines::CASE,
-            message,
-            flash,
-            ram,
-            nvr,
-            buffer,
-        );
-        return report::sent(rt, next, line, message, buffer);
-    }
-    let shown = report::part_of(flash, ram, nvr, line.address, line.count);
-    report::asked(rt, bench, line, shown, buffer)
-}
-
-// After a message for which as much is lent as the bench says, and no more than there is.
-fn lent(
-    bench: Bench,
-    is_case: bool,
-    message: &[u8],
-    flash: &mut [u8],
-    ram: &mut [u8],
-    nvr: &mut [u8],
-    buffer: &mut [u8],
-) -> Bench {
-    let flash_end = smaller(bench.flash, flash.len());
-    let ram_end = smaller(bench.ram, ram.len());
-    let nvr_end = smaller(bench.nvr, nvr.len());
-    let buffer_end = smaller(bench.buffer, buffer.len());
-    served(
-        bench,
-        is_case,
-        message,
-        &mut flash[0..flash_end],
-        &mut ram[0..ram_end],
-        &mut nvr[0..nvr_end],
-        &mut buffer[0..buffer_end],
-    )
-}
-
-// After a message to the device, which is made fresh for it where it opens a case.
-fn served(
-    bench: Bench,
-    is_case: bool,
-    message: &[u8],
-    flash: &mut [u8],
-    ram: &mut [u8],
-    nvr: &mut [u8],
-    buffer: &mut [u8],
-) -> Bench {
-    let settings = settings_from(bench.start);
-    let session = begun(bench.session, is_case, flash, ram, nvr);
-    let turn = session.answer(settings, message, flash, ram, nvr, buffer);
-    bench.after(turn)
-}
-
-// The settings of the device: those of a fresh one, with a start value.
-fn settings_from(start: u16) -> Settings {
-    let fresh = tape::fresh_settings();
-    fresh.starting_from(start)
-}
-
-// The session that a message finds: where it opens a case that of a fresh device, whose memory is made so, too.
-fn begun(
-    session: Session,
-    is_case: bool,
-    flash: &mut [u8],
-    ram: &mut [u8],
-    nvr: &mut [u8],
-) -> Session {
-    if !is_case {
-        return session;
-    }
-    match tape::fresh(flash, ram, nvr) {
-        Begun::Ready { session: fresh } => fresh,
-        Begun::Refused { number: _ } => session,
+    match Line::read(bench.start(), text, &mut room) {
+        Line::Heading => report.heading(text),
+        Line::Case(words) => {
+            report.case(words)?;
+            prepared(report, HELLO, bench.begin())
+        }
+        Line::Setting(setting) => {
+            bench.set(setting);
+            if let Setting::Talking(_) = setting {
+                prepared(report, HELLO, bench.answer(HELLO))?;
+            }
+            Ok(())
+        }
+        Line::Message(message) => report.sent(message, bench.answer(message)),
+        Line::Quiet(message) => prepared(report, message, bench.answer(message)),
+        Line::Question(question) => asked(bench, report, question),
+        Line::Remark => Ok(()),
+        Line::Wrong => report.wrong(text),
     }
 }
 
-// The smaller of two lengths.
-fn smaller(a: usize, b: usize) -> usize
-    ensures { result ≤ b }
-{
-    if a < b { a } else { b }
+// A message that only prepares a case: nothing is said of it where all went well.
+fn prepared<R: Print>(
+    report: &mut Report<R>,
+    message: &[u8],
+    answer: Result<&[u8], Refusal>,
+) -> io::Result<()> {
+    match answer {
+        Ok([HELLO_BACK] | [_, WORK_DONE, ..]) => Ok(()),
+        _ => report.sent(message, answer),
+    }
+}
+
+fn asked<R: Print>(bench: &Bench, report: &mut Report<R>, question: Question) -> io::Result<()> {
+    match question {
+        Question::Session => report.shown(SessionLine(bench.session())),
+        Question::Buffer => {
+            let bytes = Runs(bench.buffer());
+            report.shown(format_args!("buffer: {bytes}"))
+        }
+        Question::Memory { address, count } => {
+            let bytes = Runs(bench.part(address, count).unwrap_or(b""));
+            report.shown(format_args!("{address:08X}: {bytes}"))
+        }
+    }
 }

@@ -1,85 +1,47 @@
 // Numbers and bytes as they are written in the lines: bytes as 01 prints them, `2D 41`, and many of one byte as `FF*1024`.
-use crate::scan::find;
+ghost use Rattle.std.specs.Prelude.{◌≤◌};
 
-// What a line's bytes came to.
-#[derive(Clone, Copy)]
-pub(crate) enum Bytes {
-    // So many stand at the start of the room.
-    Told { count: usize },
-    // They are not written as they should be, or there is too little room.
-    Wrong,
-}
-
-// Reads bytes into a room, word by word.
-pub(crate) fn bytes_in(text: &[u8], room: &mut [u8]) -> Bytes {
-    let mut told = Bytes::Told { count: 0 };
-    let mut at = 0;
-    while at < text.len() {
-        let end = find(text, at, b' ');
-        let next = end + 1;
-        told = with_word(told, &text[at..end], room);
-        at = next;
+// Reads bytes into a room, word by word. None where they are not written as they should be, or there is too little room.
+pub(crate) fn bytes_in<'r>(text: &[u8], room: &'r mut [u8]) -> Option<&'r [u8]> {
+    let mut count = 0;
+    for word in text.split_inclusive(|c| *c == b' ') {
+        count = with_word(count, word, room)?;
     }
-    told
+    room.get(..count)
 }
 
-// One word more: a byte of two digits, and behind it how many times it stands there.
-fn with_word(told: Bytes, word: &[u8], room: &mut [u8]) -> Bytes {
-    let Bytes::Told { count } = told else {
-        return Bytes::Wrong;
+// One word more, behind so many bytes: a byte of two digits, and behind it how many times it stands there. The answer is how many
+// bytes there are then.
+fn with_word(count: usize, word: &[u8], room: &mut [u8]) -> Option<usize> {
+    let [high, low, times @ ..] = word else {
+        return None;
     };
-    if word.len() < 2 {
-        return Bytes::Wrong;
-    }
-    let high = text::digit_of(word[0]);
-    let low = text::digit_of(word[1]);
-    let times = times_in(&word[2..]);
-    if 15 < high {
-        return Bytes::Wrong;
-    }
-    if 15 < low {
-        return Bytes::Wrong;
-    }
-    if room.len() < count {
-        return Bytes::Wrong;
-    }
-    if room.len() - count < times {
-        return Bytes::Wrong;
-    }
-    memory::fill(room, count, times, high * 16 + low);
-    Bytes::Told {
-        count: count + times,
+    let byte = text::digit_of(*high)? << 4 | text::digit_of(*low)?;
+    let end = count.checked_add(times_in(times))?;
+    room.get_mut(count..end)?.fill(byte);
+    Some(end)
+}
+
+fn times_in(written: &[u8]) -> usize {
+    match written {
+        [] | [b' '] => 1,
+        _ => number_in(written, 10) as usize,
     }
 }
 
-fn times_in(rest: &[u8]) -> usize {
-    if rest.len() == 0 {
-        return 1;
-    }
-    number_in(rest, true) as usize
+// The number that digits write to a base. What is no digit of it is passed over.
+pub(crate) fn number_in(text: &[u8], base: u32) -> u32
+    requires { base ≤ 16 }
+{
+    text.iter()
+        .fold(0, |number, c| with_digit(number, base, *c))
 }
 
-// The number that decimal or hexadecimal digits write. What is no digit of it is passed over.
-pub(crate) fn number_in(text: &[u8], decimal: bool) -> u32 {
-    let mut number = 0;
-    let mut i = 0;
-    while i < text.len() {
-        number = with_digit(number, decimal, text::digit_of(text[i]));
-        i += 1;
+fn with_digit(number: u32, base: u32, character: u8) -> u32
+    requires { base ≤ 16 }
+{
+    match text::digit_of(character).map(u32::from) {
+        Some(digit) if digit < base => number % 0x1000_0000 * base + digit,
+        _ => number,
     }
-    number
-}
-
-fn with_digit(number: u32, decimal: bool, digit: u8) -> u32 {
-    let high = number % 0x10000000;
-    if decimal {
-        if digit < 10 {
-            return high * 10 + digit as u32;
-        }
-        return number;
-    }
-    if digit < 16 {
-        return high * 16 + digit as u32;
-    }
-    number
 }

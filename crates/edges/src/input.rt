@@ -1,25 +1,11 @@
 // Standard input, read whole.
-use std::io;
-use stream::Filled;
+use stream::FillError;
 
-#[derive(Clone, Copy)]
-pub(crate) enum Input {
-    // All of it stands at the start of the block.
-    Whole { length: usize },
-    // There is more than the block holds.
-    TooLong,
-    // A read failed.
-    Failed,
-}
-
-pub(crate) fn read_all(rt: &impl io::Input, block: &mut [u8]) -> Input {
+// The input, which stands at the start of the block.
+pub(crate) fn read_all<'a>(rt: &impl Input, block: &'a mut [u8]) -> Result<&'a [u8], FillError> {
     let mut length = 0;
-    loop {
-        match stream::fill(rt, block, length) {
-            Filled::More { held } => length = held,
-            Filled::End => return Input::Whole { length },
-            Filled::Full => return Input::TooLong,
-            Filled::Failed => return Input::Failed,
-        }
+    while let Some(held) = stream::fill(rt, block, length)? {
+        length = held;
     }
+    Ok(stream::first(block, length))
 }

@@ -1,130 +1,124 @@
 // What a line of the cases says. The first lines of the file `stdin` tell how they are written.
 use crate::hex;
-use crate::hex::Bytes;
-use crate::scan::find;
-use frame::Written;
-
-// What a line is, by its first character.
-pub(crate) const HEADING: u8 = b'*';
-
-pub(crate) const CASE: u8 = b'=';
-
-pub(crate) const SETTING: u8 = b'@';
-
-pub(crate) const FRAMED: u8 = b'>';
-
-pub(crate) const QUIET: u8 = b'.';
-
-pub(crate) const PLAIN: u8 = b'!';
-
-pub(crate) const QUESTION: u8 = b'?';
-
-pub(crate) const REMARK: u8 = b'#';
-
-pub(crate) const WRONG: u8 = b'X';
+use tm32::Link;
 
 // How long a message may be, and so what stands for it on a line.
 pub(crate) const ROOM: usize = 4096;
 
-#[derive(Clone, Copy)]
-pub(crate) struct Line {
-    pub kind: u8,
-    // The first letter of its first word, and of its second.
-    pub name: u8,
-    pub value: u8,
-    // Its first word as an address, and its second as a code or start value and as a count.
-    pub address: u32,
-    pub code: u16,
-    pub count: usize,
-    // How long the message is that stands in the room.
-    pub length: usize,
+// A line, by its first character.
+#[derive(Clone, Copy, Debug, PartialEq, Eq)]
+pub(crate) enum Line<'a> {
+    Heading,
+    // A case in words.
+    Case(&'a [u8]),
+    Setting(Setting),
+    // A message to be sent.
+    Message(&'a [u8]),
+    // A message that only prepares a case.
+    Quiet(&'a [u8]),
+    Question(Question),
+    // A remark, or nothing.
+    Remark,
+    // It is not understood.
+    Wrong,
 }
 
-// Takes a line apart, and puts its message into a room: the handshake where the line has none. The CRC of a frame starts from a
-// value.
-pub(crate) fn line_in(start: u16, text: &[u8], room: &mut [u8]) -> Line {
-    let kind = letter_at(text, 0);
-    let body = stream::behind(text, 2);
-    let gap = find(body, 0, b' ');
-    let first = &body[0..gap];
-    let second = &body[gap..];
-    let line = Line {
-        kind,
-        name: letter_at(first, 0),
-        value: letter_at(second, 1),
-        address: hex::number_in(first, false),
-        code: (hex::number_in(second, false) % 65536) as u16,
-        count: hex::number_in(second, true) as usize,
-        length: 0,
-    };
-    line.with(message_in(start, kind, body, room))
+// What a line sets up.
+#[derive(Clone, Copy, Debug, PartialEq, Eq)]
+pub(crate) enum Setting {
+    // The session restarts on a link.
+    Waiting(Link),
+    // The same, and shakes hands.
+    Talking(Link),
+    // What a CRC starts from.
+    Start(u16),
+    // The rate code.
+    Code(u8),
+    // How many bytes are lent.
+    Flash(usize),
+    Ram(usize),
+    Nvr(usize),
+    Buffer(usize),
 }
 
-// A character, and a space where there is none.
-fn letter_at(text: &[u8], place: usize) -> u8 {
-    if text.len() <= place {
-        return b' ';
-    }
-    text[place]
+// What a line asks to see.
+#[derive(Clone, Copy, Debug, PartialEq, Eq)]
+pub(crate) enum Question {
+    Session,
+    Buffer,
+    Memory { address: u32, count: usize },
 }
 
-impl Line {
-    fn with(mut self, message: Bytes) -> Self {
-        match message {
-            Bytes::Told { count } => {
-                self.length = count;
-            }
-            Bytes::Wrong => {
-                self.kind = WRONG;
-            }
-        }
-        self
-    }
-
-    // Whether its message only prepares a case.
-    pub(crate) fn is_preparing(self) -> bool {
-        let kind = self.kind;
-        match kind {
-            FRAMED | PLAIN => false,
-            _ => true,
-        }
-    }
-
-    // Whether it sends a message.
-    pub(crate) fn sends(self) -> bool {
-        let kind = self.kind;
-        match kind {
-            CASE | FRAMED | QUIET | PLAIN => true,
-            SETTING => self.name == b't',
-            _ => false,
+impl<'a> Line<'a> {
+    // Takes a line apart, and puts its message into a room. The CRC of a frame starts from a value.
+    pub(crate) fn read(start: u16, text: &'a [u8], room: &'a mut [u8]) -> Self {
+        let body = stream::behind(text, 2);
+        match text.first() {
+            None | Some(b' ' | b'#') => Line::Remark,
+            Some(b'*') => Line::Heading,
+            Some(b'=') => Line::Case(body),
+            Some(b'@') => Line::Setting(Setting::read(body)),
+            Some(b'?') => Line::Question(Question::read(body)),
+            Some(b'>') => framed_in(start, body, room).map_or(Line::Wrong, Line::Message),
+            Some(b'.') => framed_in(start, body, room).map_or(Line::Wrong, Line::Quiet),
+            Some(b'!') => hex::bytes_in(body, room).map_or(Line::Wrong, Line::Message),
+            Some(_) => Line::Wrong,
         }
     }
 }
 
-fn message_in(start: u16, kind: u8, body: &[u8], room: &mut [u8]) -> Bytes {
-    match kind {
-        PLAIN => hex::bytes_in(body, room),
-        FRAMED | QUIET => framed_in(start, body, room),
-        HEADING | CASE | SETTING | QUESTION | REMARK | b' ' => hex::bytes_in(b"7F", room),
-        _ => Bytes::Wrong,
+impl Setting {
+    // The first letter of its first word says what it is, and where it is none of the others it is the buffer.
+    fn read(body: &[u8]) -> Self {
+        let (name, value) = words_in(body);
+        let count = hex::number_in(value, 10) as usize;
+        let number = hex::number_in(value, 16);
+        match name.first() {
+            Some(b'w') => Setting::Waiting(link_of(value)),
+            Some(b't') => Setting::Talking(link_of(value)),
+            Some(b's') => Setting::Start((number % 0x1_0000) as u16),
+            Some(b'c') => Setting::Code((number % 0x100) as u8),
+            Some(b'f') => Setting::Flash(count),
+            Some(b'r') => Setting::Ram(count),
+            Some(b'n') => Setting::Nvr(count),
+            _ => Setting::Buffer(count),
+        }
     }
 }
 
-fn framed_in(start: u16, body: &[u8], room: &mut [u8]) -> Bytes {
-    let mut told = [0; ROOM];
-    match hex::bytes_in(body, &mut told) {
-        Bytes::Told { count } => framed(start, stream::first(&told, count), room),
-        Bytes::Wrong => Bytes::Wrong,
+impl Question {
+    fn read(body: &[u8]) -> Self {
+        let (name, value) = words_in(body);
+        match name.first() {
+            Some(b's') => Question::Session,
+            Some(b'b') => Question::Buffer,
+            _ => Question::Memory {
+                address: hex::number_in(name, 16),
+                count: hex::number_in(value, 10) as usize,
+            },
+        }
     }
+}
+
+fn link_of(value: &[u8]) -> Link {
+    match value.first() {
+        Some(b's') => Link::Spi,
+        Some(b'i') => Link::I2c,
+        _ => Link::Uart,
+    }
+}
+
+// The first word, and what stands behind it.
+fn words_in(body: &[u8]) -> (&[u8], &[u8]) {
+    let mut words = body.splitn(2, |c| *c == b' ');
+    let first = words.next().unwrap_or(b"");
+    (first, words.next().unwrap_or(b""))
 }
 
 // The first byte is the command, and the others are its data.
-fn framed(start: u16, told: &[u8], room: &mut [u8]) -> Bytes {
-    if told.len() == 0 {
-        return Bytes::Wrong;
-    }
-    match frame::write(start, told[0], &told[1..], room) {
-        Written::Frame(length) => Bytes::Told { count: length },
-        _ => Bytes::Wrong,
-    }
+fn framed_in<'r>(start: u16, body: &[u8], room: &'r mut [u8]) -> Option<&'r [u8]> {
+    let mut told = [0; ROOM];
+    let (command, data) = hex::bytes_in(body, &mut told)?.split_first()?;
+    let length = frame::write(start, *command, data, room).ok()?;
+    room.get(..length)
 }

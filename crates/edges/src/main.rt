@@ -8,64 +8,19 @@ mod hex;
 mod input;
 mod lines;
 mod report;
-mod scan;
 mod show;
 
-ghost use Rattle.std.specs.Prelude.{◌≡◌, ◌+◌, length};
-ghost use Rattle.tm32.specs.After.{reply_room};
-ghost use Rattle.tm32_asks.specs.Map.{flash_length, nvr_length, ram_length};
+use stream::FillError;
 
-use bench::{BUFFER_ROOM, FLASH_ROOM, NVR_ROOM, RAM_ROOM};
-use input::Input;
+// How long the cases may be.
+const BLOCK_ROOM: usize = 65536;
 
 fn main(rt: HostRuntime) {
-    let mut block = block();
-    match input::read_all(&rt, &mut block) {
-        Input::Whole { length } => on_memory(&rt, stream::first(&block, length)),
-        Input::TooLong => show::text(&rt, b"There are too many cases.\n"),
-        Input::Failed => show::text(&rt, b"The cases could not be read.\n"),
-    }
-}
-
-fn on_memory(rt: &impl Print, text: &[u8]) {
-    cases::run(
-        rt,
-        text,
-        &mut flash(),
-        &mut ram(),
-        &mut nvr(),
-        &mut buffer(),
-    );
-}
-
-// What is lent: a block that the cases are read into, and the device's memory. Whoever calls these knows the length and nothing of the
-// bytes, which keeps the proofs short.
-fn block() -> [u8; 65536]
-    ensures { 65536 ≡ length result }
-{
-    [0; 65536]
-}
-
-fn flash() -> [u8; FLASH_ROOM]
-    ensures { flash_length + 1 ≡ length result }
-{
-    [0; FLASH_ROOM]
-}
-
-fn ram() -> [u8; RAM_ROOM]
-    ensures { ram_length + 1 ≡ length result }
-{
-    [0; RAM_ROOM]
-}
-
-fn nvr() -> [u8; NVR_ROOM]
-    ensures { nvr_length + 1 ≡ length result }
-{
-    [0; NVR_ROOM]
-}
-
-fn buffer() -> [u8; BUFFER_ROOM]
-    ensures { reply_room + 1 ≡ length result }
-{
-    [0; BUFFER_ROOM]
+    let mut block = [0; BLOCK_ROOM];
+    // Where standard output cannot be written, there is nobody left to tell.
+    let _ = match input::read_all(&rt, &mut block) {
+        Ok(text) => cases::run(&rt, text),
+        Err(FillError::Full) => println!(rt; "There are too many cases."),
+        Err(FillError::Failed) => println!(rt; "The cases could not be read."),
+    };
 }

@@ -11,26 +11,24 @@
 --     frame_bytes, data_bytes                frames and their data are made of bytes
 --     none_bytes, more_bytes, joined_bytes, last_bytes, word_bytes     and so are no bytes, one more, two lists joined, the end of one, and a number of 16 bits
 -- Assumes nothing.
-use Prim.Native.Nat.{ℕ, ◌+◌, ◌-◌, ◌≤◌, ◌<◌}
+use Prim.Native.Nat.{ℕ, ◌+◌, ◌-◌, ◌*◌, ◌/◌, ◌%◌, ◌^◌, ◌≤◌, ◌<◌}
 use mathlib.Core.List.{List, [], ◌∷◌, ◌++◌}
 use mathlib.Core.Path.{◌≡◌, refl, sym, ap, ◌∙◌}
 use native.Mathlib.Omega.{arith}
-use borrow.Author.Tests.{lt-ltb, le-ltb, eq-eqb, ltb-false}
-use lib.Dec.{ltb, lit<}
-use lib.ListN.{length, take, drop, get_or, length-append, length-drop, take-append-drop}
-use lib.Seq.{take-append_seam, drop-append_seam}
+use Rattle.std.specs.Prelude.{Ok, Err}
+use lib.Dec.{lit<}
+use lib.ListN.{length, take, drop, get_or, take-append-drop}
+use Rattle.std.proofs.lemmas.Bool.Decides.{nat_tests}
+use Rattle.std.proofs.lemmas.Grind.{common_steps}
 use Rattle.frame.specs.Crc.{byte_done, crc}
-use Rattle.frame.specs.Frame.{AllBytes, head_byte, overhead, longest, word, covered, frame, data_of, reading, laid, outcome, writing}
-use Rattle.frame.specs.declared.Reading.TheVariants.{Sound}
-use Rattle.frame.specs.declared.Written.TheVariants.{Frame, TooLong, NoRoom}
-use Rattle.frame.proofs.Answered
+use Rattle.frame.specs.Frame.{AllBytes, head_byte, overhead, longest, word, covered, frame, data_of, reading, sound, laid, outcome, writing}
+use Rattle.frame.specs.declared.WriteError.TheVariants.{TooLong, NoRoom}
 use Rattle.frame.proofs.Bytes.{first_bytes}
 pub use Rattle.frame.proofs.Bytes.{joined_bytes, last_bytes, more_bytes, none_bytes, word_bytes}
 use Rattle.frame.proofs.Passed
 use Rattle.frame.proofs.Places
 pub use Rattle.frame.proofs.Places.{length_frame}
 pub use Rattle.frame.proofs.Sums.{crc_fits}
-pub use Rattle.frame.proofs.Words.{whole_again}
 
 -- ---- the CRC
 
@@ -44,15 +42,20 @@ carried_on value (byte ∷ first) second = carried_on (byte_done value byte) fir
 module _ (bytes buffer : List ℕ) where
   pub laid_front : take (length bytes) (laid bytes buffer) ≡ bytes
   unfolding laid
-  laid_front = take-append_seam bytes _
+  laid_front = grind (arith, common_steps)
 
   pub laid_rest : drop (length bytes) (laid bytes buffer) ≡ drop (length bytes) buffer
   unfolding laid
-  laid_rest = drop-append_seam bytes _
+  laid_rest = grind (arith, common_steps)
 
   pub laid_length : length bytes ≤ length buffer → length (laid bytes buffer) ≡ length buffer
   unfolding laid
-  laid_length room = simp (length-append, length-drop) (omega arith)
+  laid_length room = grind (arith, common_steps)
+
+-- ---- a number as two bytes
+
+pub whole_again : (number : ℕ) → number < 2 ^ 16 → number % 256 + 256 * (number / 256 % 256) ≡ number
+whole_again number fits = omega arith
 
 -- ---- writing
 
@@ -65,54 +68,45 @@ pub record Wrote (start second : ℕ) (payload buffer : List ℕ) (n : ℕ) (aft
 
 module _ (start second : ℕ) (payload buffer : List ℕ) where
   pub written : length payload ≤ longest → length payload + overhead ≤ length buffer
-      → writing start second payload buffer ≡ outcome (Frame (length payload + overhead)) (laid (frame start second payload) buffer)
+      → writing start second payload buffer ≡ outcome (Ok (length payload + overhead)) (laid (frame start second payload) buffer)
   unfolding writing
-  written short room = simp (le-ltb _ _ short, le-ltb _ _ room)
+  written short room = grind (arith, nat_tests)
 
-  pub too_long : longest < length payload → writing start second payload buffer ≡ outcome TooLong buffer
+  pub too_long : longest < length payload → writing start second payload buffer ≡ outcome (Err TooLong) buffer
   unfolding writing
-  too_long long = simp (lt-ltb _ _ long)
+  too_long long = grind (arith, nat_tests)
 
   pub no_room : length payload ≤ longest → length buffer < length payload + overhead
-      → writing start second payload buffer ≡ outcome NoRoom buffer
+      → writing start second payload buffer ≡ outcome (Err NoRoom) buffer
   unfolding writing
-  no_room short none = simp (le-ltb _ _ short, lt-ltb _ _ none)
+  no_room short none = grind (arith, nat_tests)
 
-  pub answered : (n : ℕ) (after : List ℕ) → outcome (Frame n) after ≡ writing start second payload buffer → Wrote start second payload buffer n after
+  pub answered : (n : ℕ) (after : List ℕ) → outcome (Ok n) after ≡ writing start second payload buffer → Wrote start second payload buffer n after
   unfolding writing
-  answered n after same =
-      let told = Answered.neither (ltb longest (length payload)) (ltb (length buffer) (length payload + overhead)) _ _ _ buffer _ same in
-      record { short = ltb-false _ _ told.0; room = ltb-false _ _ told.1; whole = told.2; over = told.3 }
+  answered n after same = grind (arith, nat_tests)
 
 -- ---- what is written is read back
 
 pub written_is_read : (start second : ℕ) (payload : List ℕ) → length payload ≤ longest
-    → (reading start (frame start second payload) ≡ Sound second (length payload)) × (data_of (frame start second payload) ≡ payload)
+    → (reading start (frame start second payload) ≡ sound second (length payload)) × (data_of (frame start second payload) ≡ payload)
 unfolding reading
-written_is_read start second payload short =
-    let n = length payload in
-    let check : n + 6 - 2 ≡ n + 4 = omega arith in
-    let rest : n + 6 - 6 ≡ n = omega arith in
-    let whole : 6 ≤ n + 6 = omega arith in (
-      simp (
-        length_frame start second payload,
-        check,
-        rest,
-        Places.head_at start second payload,
-        Places.second_at start second payload,
-        Places.length_at start second payload short,
-        Places.check_at start second payload,
-        Places.covered_at start second payload,
-        le-ltb _ _ whole,
-        eq-eqb (n + 6) (n + 6) refl,
-        eq-eqb (crc start (covered second payload)) (crc start (covered second payload)) refl,
-      ),
-      Places.data_at start second payload,
-    )
+written_is_read start second payload short = (
+  grind (
+    arith,
+    nat_tests,
+    length_frame start second payload,
+    Places.head_at start second payload,
+    Places.second_at start second payload,
+    Places.length_at start second payload short,
+    Places.check_at start second payload,
+    Places.covered_at start second payload,
+  ),
+  Places.data_at start second payload,
+)
 
 -- and so it reads in the buffer that it was written into
 pub answered_is_read : (start second : ℕ) (payload buffer : List ℕ) (n : ℕ) (after : List ℕ) → Wrote start second payload buffer n after
-    → (reading start (take n after) ≡ Sound second (length payload)) × (data_of (take n after) ≡ payload)
+    → (reading start (take n after) ≡ sound second (length payload)) × (data_of (take n after) ≡ payload)
 answered_is_read start second payload buffer n after did =
     let there : take n after ≡ frame start second payload =
     rw (did.over, did.whole, ← length_frame start second payload) (laid_front _ _)
@@ -121,38 +115,38 @@ answered_is_read start second payload buffer n after did =
 
 -- ---- what is read was written
 
-module _ (start : ℕ) (bytes : List ℕ) (second n : ℕ) (sound : reading start bytes ≡ Sound second n) where
+module _ (start : ℕ) (bytes : List ℕ) (second n : ℕ) (reads : reading start bytes ≡ sound second n) where
   pub read_second : second ≡ get_or bytes 1 0
-  read_second = sym (Passed.passes start bytes second n sound).named
+  read_second = sym (Passed.passes start bytes second n reads).named
 
   pub length_message : length bytes ≡ n + overhead
   length_message =
-      let was = Passed.passes start bytes second n sound in
+      let was = Passed.passes start bytes second n reads in
       omega arith
 
   pub length_data : length (data_of bytes) ≡ n
   length_data =
-      let was = Passed.passes start bytes second n sound in
+      let was = Passed.passes start bytes second n reads in
       Passed.data_length start bytes second n was ∙ was.counted
 
   pub short_data : AllBytes bytes → n ≤ longest
-  short_data all = Passed.short start bytes second n (Passed.passes start bytes second n sound) all
+  short_data all = Passed.short start bytes second n (Passed.passes start bytes second n reads) all
 
   pub read_was_written : AllBytes bytes → bytes ≡ frame start second (data_of bytes)
   unfolding frame
   read_was_written all =
-      let was = Passed.passes start bytes second n sound in
+      let was = Passed.passes start bytes second n reads in
       let check = length bytes - 2 in
       sym (take-append-drop check bytes)
       ∙ ap (λ (rest : List ℕ). take check bytes ++ rest) (Passed.check_is start bytes second n was all)
       ∙ ap (λ (front : List ℕ). front ++ word (crc start front)) (Passed.covered_is start bytes second n was all)
 
-pub read_once : (start : ℕ) (one other : List ℕ) (second n n' : ℕ) → reading start one ≡ Sound second n → reading start other ≡ Sound second n'
+pub read_once : (start : ℕ) (one other : List ℕ) (second n n' : ℕ) → reading start one ≡ sound second n → reading start other ≡ sound second n'
     → data_of one ≡ data_of other → AllBytes one → AllBytes other → one ≡ other
-read_once start one other second n n' sound sound' same all all' =
-    read_was_written start one second n sound all
+read_once start one other second n n' reads reads' same all all' =
+    read_was_written start one second n reads all
     ∙ ap (frame start second) same
-    ∙ sym (read_was_written start other second n' sound' all')
+    ∙ sym (read_was_written start other second n' reads' all')
 
 -- ---- frames and their data are made of bytes
 

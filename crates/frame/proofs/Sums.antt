@@ -1,25 +1,16 @@
--- A running value fits 16 bits. After one byte it does so whatever stood there before.
+-- A running value fits 16 bits: after one byte it does so whatever stood there before. And a CRC is a fold over its bytes, as the code works it out.
 use Prim.Native.Nat.{ℕ, zero, suc, ◌^◌, ◌<◌}
-use mathlib.Core.Bool.{Bool, true, false, cond}
 use mathlib.Core.List.{List, [], ◌∷◌}
 use native.Mathlib.Omega.{arith}
-use lib.Bits.{bit_xor, xor_lt}
-use lib.Dec.{ltb, lit<}
+use mathlib.Core.Path.{◌≡◌, refl}
+use Rattle.std.specs.List.{fold}
+use lib.Bits.{xor_lt}
+use Rattle.std.proofs.lemmas.Bool.Decides.{nat_tests}
 use Rattle.frame.specs.Crc.{polynomial, shifted, bit_done, bits_done, byte_done, crc}
 
-either_fits : (test : Bool) (a b k : ℕ) → a < 2 ^ k → b < 2 ^ k → cond test a b < 2 ^ k
-either_fits true a b k fits fits' = fits
-either_fits false a b k fits fits' = fits'
-
-pub shifted_fits : (value : ℕ) → shifted value < 2 ^ 16
-unfolding shifted
-shifted_fits value = omega arith
-
 bit_fits : (value : ℕ) → bit_done value < 2 ^ 16
-unfolding bit_done polynomial
-bit_fits value =
-    let up = shifted_fits value in
-    either_fits (ltb value 0x8000) (shifted value) (bit_xor (shifted value) polynomial) 16 up (xor_lt 16 (shifted value) polynomial up (lit< tt))
+unfolding bit_done shifted polynomial
+bit_fits value = grind (arith, nat_tests, xor_lt 16)
 
 bits_fit : (count value : ℕ) → value < 2 ^ 16 → bits_done count value < 2 ^ 16
 unfolding bits_done
@@ -34,3 +25,8 @@ pub crc_fits : (value : ℕ) (bytes : List ℕ) → value < 2 ^ 16 → crc value
 unfolding crc
 crc_fits value [] fits = fits
 crc_fits value (byte ∷ bytes) fits = crc_fits (byte_done value byte) bytes (byte_fits value byte)
+
+pub folded : (value : ℕ) (bytes : List ℕ) → crc value bytes ≡ fold byte_done value bytes
+unfolding crc
+folded value [] = refl
+folded value (byte ∷ bytes) = folded (byte_done value byte) bytes

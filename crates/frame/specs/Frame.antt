@@ -1,11 +1,11 @@
 -- Document 01, "A message and its reply": frames. Messages and buffers are lists of bytes. The CRC's start value is an argument throughout.
 -- `-` is that of natural numbers: it stops at 0.
-use Rattle.std.specs.Prelude.{ℕ, ◌+◌, ◌-◌, ◌*◌, ◌/◌, ◌%◌, ◌<◌, cond, not, List, [], ◌∷◌, ◌++◌, ltb, eqb, length, take, drop, get_or}
+use Rattle.std.specs.Prelude.{ℕ, ◌+◌, ◌-◌, ◌*◌, ◌/◌, ◌%◌, ◌<◌, cond, not, List, [], ◌∷◌, ◌++◌, ltb, eqb, length, take, drop, get_or, Result, Ok, Err}
 use Rattle.frame.specs.Crc.{crc}
-use Rattle.frame.specs.declared.Reading.{Reading}
-use Rattle.frame.specs.declared.Reading.TheVariants.{Sound, Spoiled}
-use Rattle.frame.specs.declared.Written.{Written}
-use Rattle.frame.specs.declared.Written.TheVariants.{Frame, TooLong, NoRoom}
+use Rattle.frame.specs.declared.Sound.{Sound}
+use Rattle.frame.specs.declared.Spoiled.{Spoiled}
+use Rattle.frame.specs.declared.WriteError.{WriteError}
+use Rattle.frame.specs.declared.WriteError.TheVariants.{TooLong, NoRoom}
 
 -- The first byte of every frame.
 abbrev pub head_byte : ℕ
@@ -39,16 +39,24 @@ frame start second payload = covered second payload ++ word (crc start (covered 
 unfoldable pub data_of : List ℕ → List ℕ
 data_of bytes = take (length bytes - overhead) (drop 4 bytes)
 
+-- A sound frame: its second byte, and how long its data is.
+abbrev pub sound : ℕ → ℕ → Result Sound Spoiled
+sound second count = Ok (record { second = second; length = count })
+
+-- A spoiled one: the place where it went wrong.
+abbrev pub spoiled : ℕ → Result Sound Spoiled
+spoiled place = Err (record { place = place })
+
 -- How a message reads as a frame: sound, with its second byte and how long its data is, or spoiled, with the place of the first test that fails:
 -- too short for a frame, or a head that is another, at 0; a length that does not go with the data length, at 2; a CRC that does not agree, where it stands.
-unfoldable pub reading : ℕ → List ℕ → Reading
+unfoldable pub reading : ℕ → List ℕ → Result Sound Spoiled
 reading start bytes =
     let place : ℕ = length bytes - 2 in
-    cond (ltb (length bytes) overhead) (Spoiled 0)
-    (cond (not (eqb (get_or bytes 0 0) head_byte)) (Spoiled 0)
-    (cond (not (eqb (length bytes) (word_at bytes 2 + overhead))) (Spoiled 2)
-    (cond (not (eqb (word_at bytes place) (crc start (take place bytes)))) (Spoiled place)
-    (Sound (get_or bytes 1 0) (length bytes - overhead)))))
+    cond (ltb (length bytes) overhead) (spoiled 0)
+    (cond (not (eqb (get_or bytes 0 0) head_byte)) (spoiled 0)
+    (cond (not (eqb (length bytes) (word_at bytes 2 + overhead))) (spoiled 2)
+    (cond (not (eqb (word_at bytes place) (crc start (take place bytes)))) (spoiled place)
+    (sound (get_or bytes 1 0) (length bytes - overhead)))))
 
 -- Some bytes laid over the start of a buffer: what the buffer holds past them is as it came.
 unfoldable pub laid : List ℕ → List ℕ → List ℕ
@@ -56,19 +64,19 @@ laid bytes buffer = bytes ++ drop (length bytes) buffer
 
 -- What comes of writing: the answer, and the lent buffer afterwards.
 pub record Outcome : Type 0 where
-  pub answer : Written
+  pub answer : Result ℕ WriteError
   pub buffer : List ℕ
 
 -- The two put together.
-abbrev pub outcome : Written → List ℕ → Outcome
+abbrev pub outcome : Result ℕ WriteError → List ℕ → Outcome
 outcome answer buffer = record { answer = answer; buffer = buffer }
 
 -- Writing the frame of a second byte and data over a buffer: the frame's length, or a refusal that leaves the buffer as it was.
 unfoldable pub writing : ℕ → ℕ → List ℕ → List ℕ → Outcome
 writing start second payload buffer =
-    cond (ltb longest (length payload)) (outcome TooLong buffer)
-    (cond (ltb (length buffer) (length payload + overhead)) (outcome NoRoom buffer)
-    (outcome (Frame (length payload + overhead)) (laid (frame start second payload) buffer)))
+    cond (ltb longest (length payload)) (outcome (Err TooLong) buffer)
+    (cond (ltb (length buffer) (length payload + overhead)) (outcome (Err NoRoom) buffer)
+    (outcome (Ok (length payload + overhead)) (laid (frame start second payload) buffer)))
 
 -- For the laws: every number of a list is a byte, as it is in every slice that the code is lent.
 abbrev pub AllBytes : List ℕ → Type 0

@@ -9,6 +9,8 @@ mod writer;
 
 pub use crc16::crc;
 pub use reader::{data_of, read, word_at};
+use std::error::Error;
+use std::fmt;
 pub use writer::{word, write};
 
 // The first byte of every frame.
@@ -20,22 +22,43 @@ const OVERHEAD: usize = 6;
 // As much data as two bytes of length can say.
 const LONGEST: usize = 65535;
 
-// What a message is as a frame.
-#[derive(Clone, Copy)]
-pub enum Reading {
-    // A sound frame: its second byte, and how long its data is.
-    Sound { second: u8, length: usize },
-    // A spoiled one: the place where it went wrong.
-    Spoiled { place: usize },
+// What is told of a sound frame: its second byte, and how long its data is.
+#[derive(Clone, Copy, Debug, PartialEq, Eq)]
+pub struct Sound {
+    pub second: u8,
+    pub length: usize,
 }
 
-// What came of writing.
-#[derive(Clone, Copy)]
-pub enum Written {
-    // The frame stands at the start of the buffer, and this is its length.
-    Frame(usize),
-    // Refused: two bytes of length cannot say how long the data is.
+// A message that is no frame: the place where it went wrong.
+#[derive(Clone, Copy, Debug, PartialEq, Eq)]
+pub struct Spoiled {
+    pub place: usize,
+}
+
+impl fmt::Display for Spoiled {
+    fn fmt<W: fmt::Write>(&self, f: &mut fmt::Formatter<W>) -> fmt::Result {
+        write!(f, "spoiled at {}", self.place)
+    }
+}
+
+impl Error for Spoiled {}
+
+// Why no frame was written.
+#[derive(Clone, Copy, Debug, PartialEq, Eq)]
+pub enum WriteError {
+    // Two bytes of length cannot say how long the data is.
     TooLong,
-    // Refused: the buffer is shorter than the frame.
+    // The buffer is shorter than the frame.
     NoRoom,
 }
+
+impl fmt::Display for WriteError {
+    fn fmt<W: fmt::Write>(&self, f: &mut fmt::Formatter<W>) -> fmt::Result {
+        f.write_str(match self {
+            WriteError::TooLong => "refused, the data is too long",
+            WriteError::NoRoom => "refused, no room",
+        })
+    }
+}
+
+impl Error for WriteError {}

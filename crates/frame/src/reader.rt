@@ -1,63 +1,50 @@
 // Reading a frame.
-ghost use Rattle.std.specs.Prelude.{◌≡◌, ◌+◌, ◌*◌};
+ghost use Rattle.std.specs.Prelude.{◌≡◌};
 ghost use Rattle.frame.specs.Frame.{reading, data_of, word_at};
 
 use crate::crc16::crc;
-use crate::{HEAD, OVERHEAD, Reading};
+use crate::{HEAD, Sound, Spoiled};
 
 // Reads a message as a frame, in one pass over it.
-pub fn read(start: u16, bytes: &[u8]) -> Reading
+#[tactic(auto, unfolding(crate::specs::Frame::reading))]
+pub fn read(start: u16, bytes: &[u8]) -> Result<Sound, Spoiled>
     ensures { result ≡ reading start bytes.now }
 {
-    let length = bytes.len();
-    if length < OVERHEAD {
-        return Reading::Spoiled { place: 0 };
+    let [HEAD, second, _, _, payload @ .., _, _] = bytes else {
+        return Err(Spoiled { place: 0 });
+    };
+    if payload.len() != usize::from(word_at(bytes, 2)) {
+        return Err(Spoiled { place: 2 });
     }
-    if bytes[0] != HEAD {
-        return Reading::Spoiled { place: 0 };
+    let place = bytes.len() - 2;
+    if word_at(bytes, place) != crc(start, &bytes[..place]) {
+        return Err(Spoiled { place });
     }
-    if length != word_at(bytes, 2) as usize + OVERHEAD {
-        return Reading::Spoiled { place: 2 };
-    }
-    let crc_place = length - 2;
-    if word_at(bytes, crc_place) != crc(start, &bytes[..crc_place]) {
-        return Reading::Spoiled { place: crc_place };
-    }
-    Reading::Sound {
-        second: bytes[1],
-        length: length - OVERHEAD,
-    }
+    Ok(Sound {
+        second: *second,
+        length: payload.len(),
+    })
 }
 
-// The data of a frame, lent on as a part of the caller's slice. Where there are fewer than six bytes the part is empty.
+// The data of a frame, lent on as a part of the caller's slice. Fewer than six bytes hold none.
+#[tactic(auto, unfolding(crate::specs::Frame::data_of))]
 pub fn data_of(frame: &[u8]) -> &[u8]
     ensures { result.now ≡ data_of frame.now }
 {
-    let length = frame.len();
-    if length < OVERHEAD {
-        return &frame[..0];
+    match frame {
+        [_, _, _, _, payload @ .., _, _] => payload,
+        _ => &[],
     }
-    &frame[4..length - 2]
 }
 
 // The number in the two bytes from a place on. What is past the end counts as nought.
+#[tactic(auto, unfolding(crate::specs::Frame::word_at))]
 pub fn word_at(bytes: &[u8], place: usize) -> u16
     ensures { result ≡ word_at bytes.now place }
 {
-    if bytes.len() <= place {
-        return 0;
+    match bytes.get(place..) {
+        Some([low, high, ..]) => u16::from_le_bytes([*low, *high]),
+        Some([low]) => u16::from(*low),
+        _ => 0,
     }
-    let low = bytes[place];
-    let next = place + 1;
-    if bytes.len() <= next {
-        return joined(low, 0);
-    }
-    joined(low, bytes[next])
-}
-
-// The number of two bytes, the low one first.
-fn joined(low: u8, high: u8) -> u16
-    ensures { result ≡ low + 256 * high }
-{
-    low as u16 + 256 * (high as u16)
 }

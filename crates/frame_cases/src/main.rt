@@ -7,14 +7,21 @@ mod spoiled;
 mod tally;
 mod wire;
 
+use std::io;
+
 fn main(rt: HostRuntime) {
-    wire::sums(&rt);
-    wire::printed(&rt, [0x2D, 0x41, 0x00, 0x00, 0x55, 0x24]);
-    wire::printed(&rt, [0x2D, 0x90, 0x00, 0x00, 0xF1, 0x76]);
-    wire::printed(&rt, [0x2D, 0x80, 0x00, 0x00, 0x92, 0x35]);
-    wire::other_start(&rt);
-    wire::with_data(&rt);
-    wire::rooms(&rt);
-    wire::longest(&rt);
-    wire::too_long(&rt);
+    // Where standard output cannot be written, there is nobody left to tell.
+    let _ = run(&rt);
+}
+
+fn run(rt: &impl Print) -> io::Result<()> {
+    wire::sums(rt)?;
+    wire::printed(rt, [0x2D, 0x41, 0x00, 0x00, 0x55, 0x24])?;
+    wire::printed(rt, [0x2D, 0x90, 0x00, 0x00, 0xF1, 0x76])?;
+    wire::printed(rt, [0x2D, 0x80, 0x00, 0x00, 0x92, 0x35])?;
+    wire::other_start(rt)?;
+    wire::with_data(rt)?;
+    wire::rooms(rt)?;
+    wire::longest(rt)?;
+    wire::too_long(rt)
 }

@@ -1,11 +1,12 @@
 // Six ways to spoil a frame that carries no data.
-ghost use Rattle.std.specs.Prelude.{◌≤◌};
+ghost use Rattle.std.specs.Prelude.{◌≤◌, length};
 
 use crate::tally::Tally;
 use crate::wire::START;
+use std::fmt;
 
 // A way to spoil it, which is tried with many numbers.
-#[derive(Clone, Copy)]
+#[derive(Clone, Copy, Debug, PartialEq, Eq)]
 pub(crate) enum Way {
     // The byte at this place is another.
     Byte(usize),
@@ -21,67 +22,70 @@ pub(crate) enum Way {
     Longer,
 }
 
+impl Way {
+    // The message, laid over the start of the room that is lent for it.
+    fn message(self, frame: [u8; 6], number: u16, room: &mut [u8; 7]) -> &[u8]
+        ensures { 2 ≤ length result.now }
+    {
+        let [low, high] = frame::word(number);
+        let [head, second, size_low, size_high, crc_low, crc_high] = frame;
+        *room = [head, second, size_low, size_high, crc_low, crc_high, low];
+        match self {
+            Way::Byte(place) => {
+                if let Some(byte) = room.get_mut(place) {
+                    *byte ^= low;
+                }
+                &room[..6]
+            }
+            Way::Cut => &room[..5],
+            Way::Appended => room,
+            Way::Head => {
+                room[0] ^= low;
+                summed(room, 4)
+            }
+            Way::Length => {
+                room[2] = low;
+                room[3] = high;
+                summed(room, 4)
+            }
+            Way::Longer => {
+                room[4] = low;
+                summed(room, 5)
+            }
+        }
+    }
+}
+
+impl fmt::Display for Way {
+    fn fmt<W: fmt::Write>(&self, f: &mut fmt::Formatter<W>) -> fmt::Result {
+        match self {
+            Way::Byte(place) => write!(f, "byte {place} changed"),
+            Way::Cut => f.write_str("cut short by one"),
+            Way::Appended => f.write_str("one byte appended"),
+            Way::Head => f.write_str("another head, CRC anew"),
+            Way::Length => f.write_str("another data length, CRC anew"),
+            Way::Longer => f.write_str("one byte longer, CRC anew"),
+        }
+    }
+}
+
 // What reading says of the frame spoiled in one way, with each number from 1 to `most`.
-pub(crate) fn tried(frame: [u8; 6], way: Way, most: u32) -> Tally {
-    let mut tally = Tally::none();
-    let mut left = most;
-    while 0 < left {
-        tally = once(tally, frame, way, left);
-        left -= 1;
+pub(crate) fn tried(frame: [u8; 6], way: Way, most: u16) -> Tally {
+    let mut tally = Tally::default();
+    let mut room = [0; 7];
+    for number in 1..=most {
+        let message = way.message(frame, number, &mut room);
+        tally.add(frame::read(START, message), message.len() - 2);
     }
     tally
 }
 
-fn once(tally: Tally, frame: [u8; 6], way: Way, number: u32) -> Tally {
-    let bytes = bytes_of(frame, way, number);
-    let length = length_of(way);
-    let answer = frame::read(START, &bytes[0..length]);
-    tally.with(answer, length - 2)
-}
-
-fn length_of(way: Way) -> usize
-    ensures { (5 ≤ result) × (result ≤ 7) }
-{
-    match way {
-        Way::Cut => 5,
-        Way::Appended => 7,
-        Way::Longer => 7,
-        _ => 6,
-    }
-}
-
-// The message in its first bytes; what stands behind them is not read.
-fn bytes_of(frame: [u8; 6], way: Way, number: u32) -> [u8; 7] {
-    let low = (number % 256) as u8;
-    let high = (number / 256 % 256) as u8;
-    let bytes = [
-        frame[0], frame[1], frame[2], frame[3], frame[4], frame[5], low,
-    ];
-    match way {
-        Way::Byte(place) => changed(bytes, place, low),
-        Way::Cut => bytes,
-        Way::Appended => bytes,
-        Way::Head => summed(changed(bytes, 0, low), 4),
-        Way::Length => summed([frame[0], frame[1], low, high, 0, 0, 0], 4),
-        Way::Longer => summed([frame[0], frame[1], frame[2], frame[3], low, 0, 0], 5),
-    }
-}
-
-fn changed(bytes: [u8; 7], place: usize, change: u8) -> [u8; 7] {
-    let mut next = bytes;
-    if place < 7 {
-        next[place] = bytes[place] ^ change;
-    }
-    next
-}
-
-// The CRC worked out anew over all before a place, and put there.
-fn summed(bytes: [u8; 7], place: usize) -> [u8; 7]
+// The CRC worked out anew over all before a place, and put there: the message ends with it.
+fn summed(room: &mut [u8; 7], place: usize) -> &[u8]
     requires { place ≤ 5 }
+    ensures { 2 ≤ length result.now }
 {
-    let sum = frame::crc(START, &bytes[0..place]);
-    let mut next = bytes;
-    next[place] = (sum % 256) as u8;
-    next[place + 1] = (sum / 256) as u8;
-    next
+    let sum = frame::crc(START, &room[..place]);
+    room[place..place + 2].copy_from_slice(&frame::word(sum));
+    &room[..place + 2]
 }

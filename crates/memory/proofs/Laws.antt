@@ -1,112 +1,80 @@
 -- The laws of lent memory: what a crate above goes by, with no definition of this crate opened. Each holds of any numbers and any lists.
---     length_part, part_at, parts_sized, part_same     a part of a memory
---     length_replaced, part_of_replaced, replaced_inside, replaced_before, replaced_behind, replaced_nothing
+--     length_part, part_at, part_same         a part of a memory
+--     length_replaced, part_of_replaced, replaced_inside, replaced_before, replaced_behind
 --                                            a memory with other bytes from a place on: these stand there, and every other byte is as it was
 --     length_masked, masked_at, length_kept, kept_at     what programming leaves of bytes that are given
 --     same_itself, same_equal                the comparison of two lists
 --     stored, store_leaves, not_stored, programmed, not_programmed     which answer a store gives, and what it leaves of the memory
---     store_answered                         the other way round: what is known of a store by its answer
 --     in_region, region_holds                a range lies in a region just where both its ends do
---     some_page_passes, some_none, some_one, some_grows, some_either     whether some page of a run passes a test
+--     some_page_passes, some_grows, some_either     whether some page of a run passes a test
 --     covered, covers_known, meets_is        ranges of page numbers
---     touched_is, touched_nothing, touched_page, page_touched     the run of the pages on which a range has a byte
+--     no_earlier, touched_is, touched_nothing, touched_page, page_touched     the run of the pages on which a range has a byte
 --     part_bytes, masked_bytes, kept_bytes, replicate_bytes, replaced_bytes     bytes stay bytes
 -- Assumes nothing.
 use Prim.Native.Nat.{ℕ, zero, suc, ◌+◌, ◌-◌, ◌*◌, ◌/◌, ◌≤◌, ◌<◌}
-use mathlib.Core.Bool.{Bool, true, false, cond, false≢true, true≢false, ◌||◌, and-eq-true_iff, or-true}
-use mathlib.Core.List.{List, [], ◌∷◌, ◌++◌, append_assoc}
-use mathlib.Core.Path.{◌≡◌, refl, sym, ap, ap₂, ◌∙◌}
-use native.Mathlib.Decide.{dec_le, dec_lt}
-use native.Mathlib.Nat.{le_refl, le-div_iff_mul-le, mul-div_cancel}
+use mathlib.Core.Bool.{Bool, true, cond, ◌||◌}
+use mathlib.Core.List.{List, [], ◌∷◌}
+use mathlib.Core.Path.{◌≡◌, refl, sym, ap, ◌∙◌}
+use native.Mathlib.Decide.{dec_le}
+use native.Mathlib.Nat.{div-mul-le_self, le_refl, le_trans, le-div_iff_mul-le, mul-div_cancel}
 use native.Mathlib.Omega.{arith}
-use borrow.Author.Tests.{le-leb, lt-leb, leb-true, ltb-true, eq-eqb, ne_eqb, eqb-true}
 use lib.Bits.{bit_and, and_zero_l, and_zero_r, and_le_r}
-use lib.Dec.{eqb, leb, ltb, lit<}
-use lib.ListN.{length, take, drop, get_or, replicate, length-take, length-drop, get_or-eq_default}
-use lib.Seq.{paste, paste-zero, length-paste, drop-paste, length-take-le, get_or-take, get_or-drop, ext_get_or, take_at, drop_at, take-append_seam, take-length}
+use lib.ListN.{length, get_or, replicate}
+use Rattle.std.proofs.lemmas.Bool.Decides.{nat_tests}
+use Rattle.std.proofs.lemmas.Grind.{common_steps, elements}
+use Rattle.std.proofs.lemmas.List.{get_or_past}
+use Rattle.std.specs.Prelude.{Result, Ok, Err, ⊤}
 use Rattle.memory.specs.Pages.{pages, touched, some_page, covers, meets}
 use Rattle.memory.specs.Ranges.{within}
-use Rattle.memory.specs.Stores.{part, replaced, masked, same, kept, holds, Change, change, replacing, outcome, programming}
+use Rattle.memory.specs.Stores.{part, replaced, masked, same, kept, holds, Change, change, outside, replacing, outcome, programming}
+use Rattle.memory.specs.declared.Outside.{Outside}
 use Rattle.memory.specs.declared.PageRun.{PageRun}
-use Rattle.memory.specs.declared.Programmed.TheVariants.{AsGiven, Differs, Outside}
-use Rattle.memory.proofs.Parts.{same_before, same_behind}
-use Rattle.memory.proofs.Quotients.{no_earlier}
-use Rattle.memory.proofs.Runs.{alone, either, found, grows, none_found}
-pub use Rattle.memory.proofs.Runs.{covered}
+use Rattle.memory.specs.declared.Programmed.TheVariants.{AsGiven, Differs}
+use Rattle.memory.proofs.Runs.{found, grows, either}
 
 -- ---- a part of a memory
 
 -- a part that lies in the memory is as long as was asked
 pub length_part : (memory : List ℕ) (place count : ℕ) → place + count ≤ length memory → length (part memory place count) ≡ count
 unfolding part
-length_part memory place count fits = length-take-le count (drop place memory) (simp length-drop (omega arith))
+length_part memory place count fits = grind (arith, common_steps)
 
 -- it counts its bytes from the place on
 pub part_at : (memory : List ℕ) (place count i : ℕ) → i < count → get_or (part memory place count) i 0 ≡ get_or memory (place + i) 0
 unfolding part
-part_at memory place count i inside = get_or-take count (drop place memory) i 0 inside ∙ get_or-drop place memory i 0
-
--- parts of memories of one length are of one length
-pub parts_sized : (one other : List ℕ) (place count : ℕ) → length one ≡ length other → length (part one place count) ≡ length (part other place count)
-unfolding part
-parts_sized one other place count sized = simp (length-take, length-drop, sized)
+part_at memory place count i inside = grind (arith, common_steps)
 
 -- two memories of one length that agree on a range have the same part there
 pub part_same : (one other : List ℕ) (place count : ℕ) → length one ≡ length other → ((i : ℕ) → place ≤ i → i < place + count → get_or one i 0 ≡ get_or other i 0)
     → part one place count ≡ part other place count
 unfolding part
-part_same one other place count sized agree =
-    ext_get_or 0 (part one place count) (part other place count) (parts_sized one other place count sized)
-    (λ i inside.
-    let before : i < count = omega (arith, length-take count (drop place one)) in
-    part_at one place count i before ∙ agree (place + i) (omega arith) (omega arith) ∙ sym (part_at other place count i before))
+part_same one other place count sized agree = grind (arith, elements, agree)
 
 -- ---- a memory with other bytes from a place on
 
 module _ (memory : List ℕ) (place : ℕ) (bytes : List ℕ) (fits : place + length bytes ≤ length memory) where
-  -- two other ways to write such a memory
-  pasted : replaced memory place bytes ≡ paste memory place bytes (length bytes)
-  unfolding replaced
-  pasted = rw take-length
-
-  parted : replaced memory place bytes ≡ take place memory ++ (bytes ++ drop (place + length bytes) memory)
-  unfolding replaced
-  parted = rw append_assoc
-
-  front_length : length (take place memory) ≡ place
-  front_length = length-take-le place memory (omega arith)
-
   -- it is as long as before
   pub length_replaced : length (replaced memory place bytes) ≡ length memory
-  length_replaced = ap length pasted ∙ length-paste memory place bytes (length bytes) fits (le_refl _)
+  unfolding replaced
+  length_replaced = grind (arith, common_steps)
 
   -- the bytes stand there, as a whole and one by one
   pub part_of_replaced : part (replaced memory place bytes) place (length bytes) ≡ bytes
-  unfolding part
-  part_of_replaced =
-      let rest = drop (place + length bytes) memory in
-      ap (take (length bytes)) (ap (drop place) parted ∙ drop_at (take place memory) (bytes ++ rest) place front_length)
-      ∙ take-append_seam bytes rest
+  unfolding part replaced
+  part_of_replaced = grind (arith, common_steps)
 
   pub replaced_inside : (i : ℕ) → i < length bytes → get_or (replaced memory place bytes) (place + i) 0 ≡ get_or bytes i 0
-  replaced_inside i inside =
-      sym (part_at _ place (length bytes) i inside)
-      ∙ ap (λ (list : List ℕ). get_or list i 0) part_of_replaced
+  unfolding replaced
+  replaced_inside i inside = grind (arith, elements)
 
   -- every other byte is as it was, before them and behind
   pub replaced_before : (i : ℕ) → i < place → get_or (replaced memory place bytes) i 0 ≡ get_or memory i 0
-  replaced_before i before =
-      same_before _ memory place i (ap (take place) parted ∙ take_at _ _ place front_length) before
+  unfolding replaced
+  replaced_before i before = grind (arith, elements)
 
   pub replaced_behind : (i : ℕ) → place + length bytes ≤ i → get_or (replaced memory place bytes) i 0 ≡ get_or memory i 0
-  replaced_behind i behind =
-      let rest = ap (drop (place + length bytes)) pasted ∙ drop-paste memory place bytes (length bytes) (omega arith) (le_refl _) in
-      same_behind _ memory (place + length bytes) i rest behind
-
--- no bytes change nothing, wherever they are put
-pub replaced_nothing : (memory : List ℕ) (place : ℕ) → replaced memory place [] ≡ memory
-unfolding replaced
-replaced_nothing memory place = sym (paste-zero memory place [])
+  unfolding replaced
+  replaced_behind i behind = grind (arith, elements)
 
 -- ---- bytes that can only be cleared
 
@@ -133,9 +101,7 @@ module _ (memory : List ℕ) (place : ℕ) (bytes : List ℕ) where
 
   pub kept_at : (i : ℕ) → i < length bytes → get_or (kept memory place bytes) i 0 ≡ bit_and (get_or memory (place + i) 0) (get_or bytes i 0)
   unfolding kept
-  kept_at i inside =
-      masked_at (part memory place (length bytes)) bytes i
-      ∙ ap (λ (old : ℕ). bit_and old (get_or bytes i 0)) (part_at memory place (length bytes) i inside)
+  kept_at i inside = grind (arith, masked_at, part_at)
 
 -- ---- lists that are the same
 
@@ -143,96 +109,68 @@ module _ (memory : List ℕ) (place : ℕ) (bytes : List ℕ) where
 pub same_itself : (bytes : List ℕ) → same bytes bytes ≡ true
 unfolding same
 same_itself [] = refl
-same_itself (byte ∷ bytes) = rw (eq-eqb byte byte refl) (same_itself bytes)
+same_itself (byte ∷ bytes) = grind (arith, nat_tests, same_itself bytes)
 
 -- and two that are the same are equal
-pub same_equal : (bytes others : List ℕ) → same bytes others ≡ true → bytes ≡ others
+pub same_equal : (xs ys : List ℕ) → same xs ys ≡ true → xs ≡ ys
 unfolding same
 same_equal [] [] equal = refl
-same_equal [] (y ∷ ys) equal = absurd (false≢true equal)
-same_equal (x ∷ xs) [] equal = absurd (false≢true equal)
-same_equal (x ∷ xs) (y ∷ ys) equal =
-    let both = (and-eq-true_iff (eqb x y) (same xs ys)).0 equal in
-    ap₂ (λ (first : ℕ) (rest : List ℕ). first ∷ rest) (eqb-true x y both.0) (same_equal xs ys both.1)
+same_equal [] (y ∷ ys) equal = cc
+same_equal (x ∷ xs) [] equal = cc
+same_equal (x ∷ xs) (y ∷ ys) equal = grind (arith, nat_tests, same_equal xs ys)
 
 -- ---- which answer a store gives, and what it leaves of the memory
 
--- what an answer tells
-told : (done fits : Bool) (after over memory : List ℕ) → change done after ≡ cond fits (change true over) (change false memory)
-    → (fits ≡ done) × (after ≡ cond done over memory)
-told true true after over memory equal = (refl, ap (λ (c : Change). c.memory) equal)
-told true false after over memory equal = absurd (true≢false (ap (λ (c : Change). c.done) equal))
-told false true after over memory equal = absurd (false≢true (ap (λ (c : Change). c.done) equal))
-told false false after over memory equal = (refl, ap (λ (c : Change). c.memory) equal)
-
 module _ (memory : List ℕ) (place : ℕ) (bytes : List ℕ) where
   -- bytes that fit are stored
-  pub stored : place + length bytes ≤ length memory → replacing memory place bytes ≡ change true (replaced memory place bytes)
+  pub stored : place + length bytes ≤ length memory → replacing memory place bytes ≡ change (Ok tt) (replaced memory place bytes)
   unfolding replacing holds
-  stored fits = simp (le-leb _ _ fits)
+  stored fits = grind (arith, nat_tests)
 
   -- and stand in the memory afterwards
-  pub store_leaves : place + length bytes ≤ length memory → (done : Bool) (after : List ℕ) → change done after ≡ replacing memory place bytes → after ≡ replaced memory place bytes
+  pub store_leaves : place + length bytes ≤ length memory → (done : Result ⊤ Outside) (after : List ℕ) → change done after ≡ replacing memory place bytes
+      → after ≡ replaced memory place bytes
   store_leaves fits done after told = ap (λ (did : Change). did.memory) (told ∙ stored fits)
 
   -- bytes that reach past the end are not, and nothing changes
-  pub not_stored : length memory < place + length bytes → replacing memory place bytes ≡ change false memory
+  pub not_stored : length memory < place + length bytes → replacing memory place bytes ≡ change (Err outside) memory
   unfolding replacing holds
-  not_stored short = simp (lt-leb _ _ short)
-
-  -- the other way round: the answer is whether they fit, and says what the memory is now
-  pub store_answered : (done : Bool) (after : List ℕ) → change done after ≡ replacing memory place bytes
-      → (leb (place + length bytes) (length memory) ≡ done) × (after ≡ cond done (replaced memory place bytes) memory)
-  unfolding replacing holds
-  store_answered done after equal = told done (leb (place + length bytes) (length memory)) after (replaced memory place bytes) memory equal
+  not_stored short = grind (arith, nat_tests)
 
   -- bytes that fit are programmed, and the answer is whether they are kept as given
   pub programmed : place + length bytes ≤ length memory → programming memory place bytes
-      ≡ outcome (cond (same (kept memory place bytes) bytes) AsGiven Differs) (replaced memory place (kept memory place bytes))
+      ≡ outcome (Ok (cond (same (kept memory place bytes) bytes) AsGiven Differs)) (replaced memory place (kept memory place bytes))
   unfolding programming holds
-  programmed fits = simp (le-leb _ _ fits)
+  programmed fits = grind (arith, nat_tests)
 
   -- bytes that reach past the end are not programmed, and nothing changes
-  pub not_programmed : length memory < place + length bytes → programming memory place bytes ≡ outcome Outside memory
+  pub not_programmed : length memory < place + length bytes → programming memory place bytes ≡ outcome (Err outside) memory
   unfolding programming holds
-  not_programmed short = simp (lt-leb _ _ short)
+  not_programmed short = grind (arith, nat_tests)
 
 -- ---- ranges
 
 -- a range whose ends lie in a region lies in it
 pub in_region : (start size address count : ℕ) → start ≤ address → address + count ≤ start + size → within start size address count ≡ true
 unfolding within
-in_region start size address count from to = simp (le-leb _ _ from, le-leb _ _ to)
+in_region start size address count from to = grind (arith, nat_tests)
 
 -- and one that lies in it has its ends there
 pub region_holds : (start size address count : ℕ) → within start size address count ≡ true → (start ≤ address) × (address + count ≤ start + size)
 unfolding within
-region_holds start size address count inside =
-    let both = (and-eq-true_iff (leb start address) _).0 inside in
-    (leb-true _ _ both.0, leb-true _ _ both.1)
+region_holds start size address count inside = (grind (arith, nat_tests), grind (arith, nat_tests))
 
 -- ---- runs of pages
 
-module _ (test : ℕ → Bool) (run : PageRun) where
-  -- some page passes where a page of the run does
-  pub some_page_passes : (page : ℕ) → run.first ≤ page → page < run.first + run.count → test page ≡ true → some_page test run ≡ true
-  unfolding some_page
-  some_page_passes page from before passes = found test run.count run.first page from before passes
-
-  -- none passes where no page of the run does
-  pub some_none : ((page : ℕ) → run.first ≤ page → page < run.first + run.count → test page ≡ false) → some_page test run ≡ false
-  unfolding some_page
-  some_none none = none_found test run.count run.first none
+-- some page passes where a page of the run does
+pub some_page_passes : (test : ℕ → Bool) (run : PageRun) (page : ℕ) → run.first ≤ page → page < run.first + run.count → test page ≡ true → some_page test run ≡ true
+unfolding some_page
+some_page_passes test run page from before passes = found test run.count run.first page from before passes
 
 -- a test that passes wherever another does finds some page wherever the other does
 pub some_grows : (test wider : ℕ → Bool) (run : PageRun) → ((page : ℕ) → test page ≡ true → wider page ≡ true) → some_page test run ≡ true → some_page wider run ≡ true
 unfolding some_page
 some_grows test wider run implies passes = grows test wider implies run.count run.first passes
-
--- a run of one page passes where the page does
-pub some_one : (test : ℕ → Bool) (page : ℕ) → some_page test (pages page 1) ≡ test page
-unfolding some_page
-some_one test page = alone test page
 
 -- two tests tried together, page by page, find a page where one of them finds one
 pub some_either : (one other : ℕ → Bool) (run : PageRun) → some_page (λ page. one page || other page) run ≡ some_page one run || some_page other run
@@ -241,13 +179,16 @@ some_either one other run = either one other run.count run.first
 
 -- ---- ranges of page numbers
 
--- a covered page is one that the chip has, between the ends
-pub covers_known : (total low high page : ℕ) → covers total low high page ≡ true → (page < total) × (low ≤ page) × (page ≤ high)
-unfolding covers
-covers_known total low high page passes =
-    let all = (and-eq-true_iff (ltb page total) _).0 passes in
-    let ends = (and-eq-true_iff (leb low page) _).0 all.1 in
-    (ltb-true page total all.0, leb-true low page ends.0, leb-true page high ends.1)
+module _ (total low high page : ℕ) where
+  -- a page that the chip has, between the ends, is covered
+  pub covered : page < total → low ≤ page → page ≤ high → covers total low high page ≡ true
+  unfolding covers
+  covered had from to = grind (arith, nat_tests)
+
+  -- and a covered page is one of these
+  pub covers_known : covers total low high page ≡ true → (page < total) × (low ≤ page) × (page ≤ high)
+  unfolding covers
+  covers_known passes = (grind (arith, nat_tests), grind (arith, nat_tests), grind (arith, nat_tests))
 
 -- a range meets a run where it covers some page of it
 pub meets_is : (total low high : ℕ) (run : PageRun) → meets total low high run ≡ some_page (covers total low high) run
@@ -259,7 +200,11 @@ meets_is total low high run = refl
 -- without a byte no page is touched
 pub touched_nothing : (size place : ℕ) → touched size place 0 ≡ pages 0 0
 unfolding touched
-touched_nothing size place = rw or-true
+touched_nothing size place = grind (arith, nat_tests)
+
+-- the page of a later byte is no earlier one
+pub no_earlier : (size : ℕ) → 0 < size → (place later : ℕ) → place ≤ later → place / size ≤ later / size
+no_earlier size some place later after = (le-div_iff_mul-le some).1 (le_trans (div-mul-le_self place size) after)
 
 -- A byte of a range that lies on a page.
 pub record ByteOn (size place count page : ℕ) : Type 0 where
@@ -272,15 +217,13 @@ module _ (size place count : ℕ) (some_size : 0 < size) where
   -- with a byte: from the page of the first byte to that of the last
   pub touched_is : 0 < count → touched size place count ≡ pages (place / size) ((place + count - 1) / size - place / size + 1)
   unfolding touched
-  touched_is byte = simp (ne_eqb size 0 (omega arith), ne_eqb count 0 (omega arith))
+  touched_is byte = grind (arith, nat_tests)
 
   -- each byte of the range lies on a page of the run
   pub touched_page : (i : ℕ) → place ≤ i → i < place + count
       → ((touched size place count).first ≤ i / size) × (i / size < (touched size place count).first + (touched size place count).count)
-  touched_page i from before =
-      let low = no_earlier size some_size place i from in
-      let high = no_earlier size some_size i (place + count - 1) (omega arith) in
-      rw (touched_is (omega arith)) (low, omega arith)
+  unfolding touched
+  touched_page i from before = (grind (arith, nat_tests, no_earlier size some_size), grind (arith, nat_tests, no_earlier size some_size))
 
   -- the first byte lies on the page, or the page's own first byte is in the range
   on_page : (page : ℕ) → place / size ≤ page → page ≤ (place + count - 1) / size → 0 < count → Dec (page * size ≤ place) → ByteOn size place count page
@@ -312,12 +255,7 @@ AllBytes bytes = (i : ℕ) → get_or bytes i 0 < 256
 -- a part of a memory of bytes is made of bytes
 pub part_bytes : (memory : List ℕ) (place count : ℕ) → AllBytes memory → AllBytes (part memory place count)
 unfolding part
-part_bytes memory place count all i = by_index (dec_lt i count) where
-  by_index : Dec (i < count) → get_or (part memory place count) i 0 < 256
-  by_index (yes inside) = rw (part_at memory place count i inside) (all _)
-  by_index (no outside) =
-      let beyond : length (part memory place count) ≤ i = simp length-take (omega arith) in
-      rw (get_or-eq_default (part memory place count) 0 beyond) (lit< tt)
+part_bytes memory place count all i = grind (arith, common_steps, get_or_past, all)
 
 -- what programming leaves of bytes is made of bytes
 pub masked_bytes : (old given : List ℕ) → AllBytes given → AllBytes (masked old given)
@@ -329,19 +267,10 @@ kept_bytes memory place bytes all = masked_bytes _ bytes all
 
 -- so is a byte that is repeated
 pub replicate_bytes : (count value : ℕ) → value < 256 → AllBytes (replicate count value)
-replicate_bytes zero value small i = lit< tt
-replicate_bytes (suc count) value small zero = small
-replicate_bytes (suc count) value small (suc i) = replicate_bytes count value small i
+replicate_bytes count value small i = grind (arith, common_steps, get_or_past)
 
-module _ (memory : List ℕ) (place : ℕ) (bytes : List ℕ) (fits : place + length bytes ≤ length memory) where
-  -- before the bytes, among them, or behind
-  by_place : (i : ℕ) → AllBytes memory → AllBytes bytes → Dec (i < place) → Dec (i < place + length bytes) → get_or (replaced memory place bytes) i 0 < 256
-  by_place i all all' (yes before) end = rw (replaced_before memory place bytes fits i before) (all i)
-  by_place i all all' (no start) (yes before) =
-      let there : i ≡ place + (i - place) = omega arith in
-      rw (there, replaced_inside memory place bytes fits (i - place) (omega arith)) (all' _)
-  by_place i all all' (no start) (no end) = rw (replaced_behind memory place bytes fits i (omega arith)) (all i)
-
-  -- so is a memory of bytes with other bytes in it
-  pub replaced_bytes : AllBytes memory → AllBytes bytes → AllBytes (replaced memory place bytes)
-  replaced_bytes all all' i = by_place i all all' (dec_lt i place) (dec_lt i (place + length bytes))
+-- so is a memory of bytes with other bytes in it
+pub replaced_bytes : (memory : List ℕ) (place : ℕ) (bytes : List ℕ) → place + length bytes ≤ length memory → AllBytes memory → AllBytes bytes
+    → AllBytes (replaced memory place bytes)
+unfolding replaced
+replaced_bytes memory place bytes fits all all' i = grind (arith, elements, all, all')

@@ -2,9 +2,6 @@
 pub mod Choices
 pub mod Laws
 pub mod PageLaws
-mod Gathered
-mod Parts
 mod Programming
-mod Quotients
 mod Runs
 mod Storing

@@ -1,20 +1,27 @@
 // Ranges of addresses, and the regions that hold them.
 ghost use Rattle.std.specs.Prelude.{◌≡◌, ◌+◌};
-ghost use Rattle.memory.specs.Ranges.{within as within_is};
+ghost use Rattle.memory.specs.Ranges.{within};
 
-// Whether so many bytes from an address on all lie in a region.
-pub fn within(start: u32, size: u32, address: u32, count: u32) -> bool
-    ensures { result ≡ within_is start size address count }
-{
-    if address < start {
-        return false;
+// A region of addresses: so many bytes from its start on.
+#[derive(Clone, Copy, Debug, PartialEq, Eq)]
+pub struct Region {
+    pub start: u32,
+    pub length: u32,
+}
+
+impl Region {
+    // Whether so many bytes from an address on all lie in the region.
+    #[tactic(auto, unfolding(crate::specs::Ranges::within))]
+    pub fn holds(self, address: u32, count: u32) -> bool
+        ensures { result ≡ within self.start self.length address count }
+    {
+        self.start <= address && end(address, count) <= end(self.start, self.length)
     }
-    end(address, count) <= end(start, size)
 }
 
 // The address behind a range. It takes more than 32 bits where the range ends with the last address of all, or would reach past it.
 fn end(address: u32, count: u32) -> u64
     ensures { result ≡ address + count }
 {
-    (address as u64) + (count as u64)
+    u64::from(address) + u64::from(count)
 }

@@ -7,8 +7,7 @@ use mathlib.Core.Path.{◌≡◌, ap}
 use native.Mathlib.Omega.{arith}
 use lib.Dec.{eqb}
 use lib.ListN.{drop, length, get_or, take}
-use Rattle.stream.specs.Sheets.{Adds, AddsAll, Collected, WritesOut, all_more, collected, empty_sheet, one_more, putting_on, sheet_of, with_room, written_out}
-use Rattle.stream.specs.declared.Sheet.{Sheet}
+use Rattle.stream.specs.Sheets.{Sheet, Adds, AddsAll, Collected, WritesOut, all_more, collected, empty_sheet, one_more, putting_on, sheet_of, with_room, written_out}
 
 -- empty: a sheet that counts as failed, so that nothing would ever be written
 empty_and_failed : empty_sheet ≢ sheet_of 0 true

@@ -1,35 +1,70 @@
--- What an answer of `fill` tells of the block, by the answer: what it holds lies in it, and only a full block is full. And of a sheet: what has failed stays failed, so that a failure is not lost.
+-- What an answer of `fill` tells of the block, by the answer: what it holds lies in it, and only a full block is full. Of an input that is handed on: where all of it is done with, its end was told. And of a sheet: what has failed stays failed, so that a failure is not lost.
 use Prim.Native.Nat.{ℕ, ◌+◌, ◌≤◌, ◌<◌}
-use mathlib.Core.Bool.{Bool, true, false, cond}
-use mathlib.Core.List.{List, [], ◌∷◌}
+use mathlib.Core.Bool.{Bool, true, false, cond, not}
+use mathlib.Core.List.{List, [], ◌∷◌, ◌++◌}
+use Rattle.std.specs.Prelude.{Option, Some, None, Result, Ok, Err}
 use mathlib.Core.Path.{◌≡◌, refl, sym, ap, subst, ◌∙◌}
+use borrow.Author.Tests.{le-ltb, lt-ltb}
 use native.Mathlib.Omega.{arith}
 use lib.Dec.{ltb}
-use lib.ListN.{length, set}
+use lib.ListN.{drop, length, set}
 use Rattle.stream.specs.Blocks.{ReadsOn}
-use Rattle.stream.specs.Sheets.{Adds, AddsAll, Collected, WritesOut, all_more, collected, one_more, putting_on, sheet_of, with_room, written_out}
-use Rattle.stream.specs.declared.Filled.{Filled}
-use Rattle.stream.specs.declared.Filled.TheVariants.{More, End, Full}
-use Rattle.stream.specs.declared.Sheet.{Sheet}
+use Rattle.stream.specs.Inputs.{Feeds, Handed}
+use Rattle.stream.specs.Sheets.{MakesRoom, Sheet, Adds, AddsAll, Collected, WritesOut, all_more, collected, one_more, putting_on, sheet_of, with_room, written_out}
+use Rattle.stream.specs.declared.errors.FillError.{FillError}
+use Rattle.stream.specs.declared.errors.FillError.TheVariants.{Full}
 
-module _ (filled : Filled) (held : ℕ) (block after : List ℕ) (did : ReadsOn filled held block after) where
-  by_answer : (is : Filled) → filled ≡ is → ReadsOn is held block after
-  by_answer is told = subst (λ (one : Filled). ReadsOn one held block after) told did
+module _ (filled : Result (Option ℕ) FillError) (held : ℕ) (block after : List ℕ) (did : ReadsOn filled held block after) where
+  by_answer : (is : Result (Option ℕ) FillError) → filled ≡ is → ReadsOn is held block after
+  by_answer is told = subst (λ (one : Result (Option ℕ) FillError). ReadsOn one held block after) told did
 
   -- more was read
-  pub more_inside : (now : ℕ) → length after ≡ length block → filled ≡ More now → now ≤ length after
-  more_inside now same told = omega (arith, (by_answer (More now) told).2)
+  pub more_inside : (now : ℕ) → length after ≡ length block → filled ≡ Ok (Some now) → now ≤ length after
+  more_inside now same told = omega (arith, (by_answer (Ok (Some now)) told).2)
 
-  pub more_grows : (now : ℕ) → filled ≡ More now → held < now
-  more_grows now told = (by_answer (More now) told).1
+  pub more_grows : (now : ℕ) → filled ≡ Ok (Some now) → held < now
+  more_grows now told = (by_answer (Ok (Some now)) told).1
 
   -- the input has ended
-  pub end_inside : length after ≡ length block → filled ≡ End → held ≤ length after
-  end_inside same told = omega (arith, (by_answer End told).1)
+  pub end_inside : length after ≡ length block → filled ≡ Ok None → held ≤ length after
+  end_inside same told = omega (arith, (by_answer (Ok None) told).1)
 
   -- there was no room
-  pub full_only : filled ≡ Full → length block ≤ held
-  full_only told = (by_answer Full told).1
+  pub full_only : filled ≡ Err Full → length block ≤ held
+  full_only told = (by_answer (Err Full) told).1
+
+-- ---- an input that is handed on
+
+-- Where all of it is done with, its end was told last, and nothing was refused.
+module _ {S E : Type 0} (consumes : S → List ℕ → Result ℕ E → S → Type 0) (finishes : S → List ℕ → Result Unit E → S → Type 0) (refuses : S → FillError → E → S → Type 0) {after : S} where
+  by_pieces : (pieces : List (List ℕ)) (failure : Option FillError) (held : List ℕ) (before : S) → Handed consumes finishes refuses pieces failure held before (Ok tt) after
+      → (rest : List ℕ) × (last : S) × finishes last rest (Ok tt) after
+  by_pieces [] None held before handed = (held, before, handed)
+  by_pieces [] (Some failure) held before (error, refused, is) = cc
+  by_pieces (piece ∷ pieces) failure held before (some, Ok used, between, did, onwards) = by_pieces pieces failure (drop used (held ++ piece)) between onwards
+  by_pieces (piece ∷ pieces) failure held before (some, Err error, between, did, (is, same)) = cc
+
+  pub fed_to_the_end : (before : S) → Feeds consumes finishes refuses before (Ok tt) after → (rest : List ℕ) × (last : S) × finishes last rest (Ok tt) after
+  fed_to_the_end before feeds = by_pieces feeds.pieces feeds.failure [] before feeds.handed
+
+-- ---- a sheet that has not failed
+
+-- is empty once the system has answered, and has failed if the system did not take it
+pub empties : (sheet after : Sheet) (taken : Bool) → sheet.failed ≡ false → after ≡ sheet_of 0 (not taken) → WritesOut sheet after
+unfolding written_out
+empties sheet after taken well emptied = record { taken = taken; same = rw well emptied }
+
+-- ---- a sheet and its room
+
+-- stays as it is where it has some
+pub roomy : (size : ℕ) (sheet : Sheet) → sheet.place < size → MakesRoom size sheet sheet
+unfolding with_room
+roomy size sheet room = record { taken = true; same = simp (lt-ltb _ _ room) }
+
+-- is written out where it has none
+pub made : (size : ℕ) (sheet after : Sheet) → size ≤ sheet.place → WritesOut sheet after → MakesRoom size sheet after
+unfolding with_room
+made size sheet after full writes = record { taken = writes.taken; same = simp (le-ltb _ _ full) writes.same }
 
 -- ---- a sheet that has failed
 

@@ -1,3 +1,4 @@
--- What callers of `fill` go by, and worked examples.
+-- What callers of `fill` go by, what the proof of `feed` goes by, and worked examples.
 pub mod Laws
+pub mod Handing
 mod Examples

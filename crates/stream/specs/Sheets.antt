@@ -1,10 +1,19 @@
 -- A sheet: what is collected for standard output. Only the system knows whether it takes what is written out; all else is laid down here, for either answer.
-use Rattle.std.specs.Prelude.{ℕ, ◌+◌, Bool, cond, not, false, List, [], ◌∷◌, ◌≡◌, ltb, length, set}
-use Rattle.stream.specs.declared.Sheet.{Sheet}
+use Rattle.std.specs.Prelude.{ℕ, ◌+◌, Bool, cond, not, false, List, [], ◌∷◌, ◌≡◌, Result, IsErr, is_err, ltb, length, set}
+use Rattle.stream.specs.declared.sheets.Sheet as code
+
+-- How far a sheet is filled, and whether it has failed.
+pub record Sheet : Type 0 where
+  pub place : ℕ
+  pub failed : Bool
 
 -- A sheet with so many bytes on it, which has failed or not.
 abbrev pub sheet_of : ℕ → Bool → Sheet
 sheet_of place failed = record { place = place; failed = failed }
+
+-- The same of the code's sheet, which keeps what has come of writing it out.
+abbrev pub filled : {P : Type 0} → code.Sheet P → Sheet
+filled sheet = sheet_of sheet.place (is_err sheet.outcome)
 
 -- Nothing is collected, and nothing has failed.
 abbrev pub empty_sheet : Sheet
@@ -49,6 +58,10 @@ all_more (taken ∷ answers) sheet buffer (value ∷ values) =
 pub record WritesOut (sheet after : Sheet) : Type 0 where
   pub taken : Bool
   pub same : after ≡ written_out taken sheet
+
+-- A failure stays the one that it was.
+abbrev pub Lasts : {E : Type 0} → Result Unit E → Result Unit E → Type 0
+Lasts before after = IsErr before → after ≡ before
 
 pub record MakesRoom (size : ℕ) (sheet after : Sheet) : Type 0 where
   pub taken : Bool

@@ -1,21 +1,20 @@
 // The block that standard input is read into.
 ghost use Rattle.stream.specs.Blocks.{ReadsOn};
 
-use crate::Filled;
+use crate::FillError;
 use std::io::Read;
 
-// Reads on behind the bytes that a block holds. No contract can say what comes.
-pub fn fill(rt: &impl Input, block: &mut [u8], held: usize) -> Filled
+// Reads on behind the bytes that a block holds: how many it holds now, or none where the input has ended. No contract can say what
+// comes.
+pub fn fill(rt: &impl Input, block: &mut [u8], held: usize) -> Result<Option<usize>, FillError>
     ensures { ReadsOn result held block.old block.new }
 {
     if block.len() <= held {
-        return Filled::Full;
+        return Err(FillError::Full);
     }
-    let Ok(count) = rt.reader().read(&mut block[held..]) else {
-        return Filled::Failed;
-    };
-    if count == 0 {
-        return Filled::End;
+    match rt.reader().read(&mut block[held..]) {
+        Ok(0) => Ok(None),
+        Ok(count) => Ok(Some(held + count)),
+        Err(_) => Err(FillError::Failed),
     }
-    Filled::More { held: held + count }
 }

@@ -3,28 +3,13 @@
 #![tactic(auto)]
 
 mod blocks;
+mod errors;
+mod inputs;
 mod parts;
 mod sheets;
 
 pub use blocks::fill;
+pub use errors::FillError;
+pub use inputs::{Consumer, feed};
 pub use parts::{behind, first};
-
-// What came of reading on.
-#[derive(Clone, Copy)]
-pub enum Filled {
-    // The block holds so many bytes now.
-    More { held: usize },
-    // The input has ended.
-    End,
-    // Nothing was read: the block is full.
-    Full,
-    // Nothing was read: the input cannot be read.
-    Failed,
-}
-
-// What is collected in a lent buffer: how many of its bytes, and whether a sheet could not be written out.
-#[derive(Clone, Copy)]
-pub struct Sheet {
-    pub place: usize,
-    pub failed: bool,
-}
+pub use sheets::Sheet;

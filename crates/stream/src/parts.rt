@@ -5,18 +5,12 @@ ghost use Rattle.std.specs.Prelude.{◌≡◌, drop, take};
 pub fn first(bytes: &[u8], count: usize) -> &[u8]
     ensures { result.now ≡ take count bytes.now }
 {
-    if bytes.len() < count {
-        return bytes;
-    }
-    &bytes[0..count]
+    bytes.get(..count).unwrap_or(bytes)
 }
 
 // What stands from a place on, and nothing where it lies past the end.
 pub fn behind(bytes: &[u8], place: usize) -> &[u8]
     ensures { result.now ≡ drop place bytes.now }
 {
-    if bytes.len() < place {
-        return &bytes[0..0];
-    }
-    &bytes[place..]
+    bytes.get(place..).unwrap_or(&[])
 }

@@ -6,9 +6,8 @@ use Rattle.tm32.specs.Device.{Device, Memory, device_of}
 use Rattle.tm32.specs.declared.Settings.{Settings}
 use Rattle.tape.specs.Records.{head_length, record_of}
 use Rattle.tape.specs.Script.{Script, script_of}
+use Rattle.tape.specs.Stops.{Stop, MoreTape, Room, End, Error, Refused, stop_of}
 use Rattle.tape.specs.declared.Played.{Played}
-use Rattle.tape.specs.declared.Stop.{Stop}
-use Rattle.tape.specs.declared.Stop.TheVariants.{MoreTape, Room, End, Error, Refused}
 
 -- The kinds of what is written: a reply, and what is wrong with the tape.
 abbrev pub reply_kind : ℕ
@@ -93,4 +92,4 @@ played settings device ends tape buffer =
 
 -- The same, from what the player hands back and from the lent slices as they are then.
 abbrev pub left_by : Played → Memory → List ℕ → Left
-left_by handed memory buffer = left_of (device_of handed.session memory) handed.used handed.written handed.stop buffer
+left_by handed memory buffer = left_of (device_of handed.session memory) handed.used handed.written (stop_of handed.stop) buffer

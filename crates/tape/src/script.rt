@@ -1,63 +1,54 @@
 // What a tape holds for the player: the next message, or why there is none.
-ghost use Rattle.std.specs.Prelude.{◌≡◌};
-ghost use Rattle.tape.specs.Script.{cut as cut_is, judged as judged_is, next_in};
+ghost use Rattle.std.specs.Prelude.{◌≡◌, ℕ, Err};
+ghost use Rattle.tape.specs.Promises.{let_through, next_told};
+ghost use Rattle.tape.specs.Script.{Next, cut as cut_is, judged as judged_is, next_in};
+ghost use Rattle.tape.specs.Stops.{stop_of};
 
 use crate::records::record_in;
-use crate::{Found, Next, Stop};
+use crate::{Found, Head, Stop, TapeError};
 
-// The kind of a message, and the most that its body may have.
+// The kind of a message, and the most that its body may have. A kind is a number, and no enum: a record may have any.
 pub const MESSAGE: u16 = 1;
 
 const MOST_BODY: u16 = 2048;
 
-// 01's numbers for what is wrong with a tape.
-const CUT_SHORT: u8 = 1;
-
-const UNKNOWN_KIND: u8 = 2;
-
-const TOO_LONG: u8 = 3;
-
-// The next message of a tape, or why there is none.
-pub(crate) fn next_in(tape: &[u8], ends: bool) -> Next
-    ensures { result ≡ next_in ends tape.now }
+// How long the body of a tape's next message is, or why there is none.
+#[tactic(auto, unfolding(crate::specs::Script::next_of))]
+pub(crate) fn next_in(tape: &[u8], ends: bool) -> Result<u16, Stop>
+    ensures { next_told result ≡ next_in ends tape.now }
 {
     match record_in(tape) {
-        Found::Nothing => cut(ends, Stop::End),
-        Found::HeadCut => cut(ends, Stop::Error { number: CUT_SHORT }),
-        Found::BodyCut { length, kind } => {
-            judged(length, kind, cut(ends, Stop::Error { number: CUT_SHORT }))
+        Found::Nothing => Err(cut(ends, Stop::End)),
+        Found::HeadCut => Err(cut(ends, Stop::Error(TapeError::CutShort))),
+        Found::BodyCut(head) => {
+            head.judged()?;
+            Err(cut(ends, Stop::Error(TapeError::CutShort)))
         }
-        Found::Whole { length, kind } => judged(length, kind, Next::Message { length }),
+        Found::Whole(head) => {
+            head.judged()?;
+            Ok(head.length)
+        }
     }
 }
 
 // Where the tape stops short of a record: what it comes to if the input ends there, and a wish for more if it does not.
-fn cut(ends: bool, stop: Stop) -> Next
-    ensures { result ≡ cut_is ends stop }
+fn cut(ends: bool, stop: Stop) -> Stop
+    ensures { Err (stop_of result) ≡ cut_is ends (stop_of stop) }
 {
-    if ends {
-        return Next::Over { stop };
-    }
-    Next::Over {
-        stop: Stop::MoreTape,
-    }
+    if ends { stop } else { Stop::MoreTape }
 }
 
-// A whole head, judged for its length and then for its kind.
-fn judged(length: u16, kind: u16, next: Next) -> Next
-    ensures { result ≡ judged_is length kind next }
-{
-    if MOST_BODY < length {
-        return Next::Over {
-            stop: Stop::Error { number: TOO_LONG },
-        };
+impl Head {
+    // A whole head, judged for its length and then for its kind.
+    fn judged(self) -> Result<(), TapeError>
+        ensures { (next : Next) → let_through result next ≡ judged_is self.length self.kind next }
+    {
+        if MOST_BODY < self.length {
+            return Err(TapeError::TooLong);
+        }
+        if self.kind != MESSAGE {
+            return Err(TapeError::UnknownKind);
+        }
+        Ok(())
     }
-    if kind != MESSAGE {
-        return Next::Over {
-            stop: Stop::Error {
-                number: UNKNOWN_KIND,
-            },
-        };
-    }
-    next
 }

@@ -1,11 +1,10 @@
 // The device that a tape starts on: 01, "The bench tape".
-ghost use Rattle.std.specs.Prelude.{◌≡◌, ◌≤◌, length};
-ghost use Rattle.tm32.specs.Device.{memory_of};
+ghost use Rattle.std.specs.Prelude.{◌≡◌, ◌≢◌, MatchResult, length};
 ghost use Rattle.tm32.specs.Fresh.{fresh_settings};
-ghost use Rattle.tape.specs.Starting.{started, starting};
+ghost use Rattle.tm32.specs.Promises.{SameSlices, held};
+ghost use Rattle.tape.specs.Starting.{started_by, starting};
 
-use crate::Begun;
-use tm32::{FLASH_LENGTH, Link, NVR_LENGTH, RAM_LENGTH, Session, Settings};
+use tm32::{FLASH_LENGTH, LentMemory, Link, NVR_LENGTH, RAM_LENGTH, Refusal, Session, Settings};
 
 // An erased byte of the flash.
 const BLANK: u8 = 0xFF;
@@ -19,30 +18,35 @@ const OPTIONS: [u8; 22] = [
 // Where in the NVR they stand.
 const OPTIONS_PLACE: usize = 0x800;
 
-// Makes lent memory that of a fresh device. Memory of another length is refused, and none of it is changed.
-pub fn fresh(flash: &mut [u8], ram: &mut [u8], nvr: &mut [u8]) -> Begun
-    ensures { started result (memory_of flash.new ram.new nvr.new)
-        ≡ starting (memory_of flash.old ram.old nvr.old) }
+// Makes lent memory that of a fresh device, and starts a session. Memory of another length is refused, and none of it is changed.
+#[tactic(auto, unfolding(crate::specs::Starting::starting, tm32::specs::After::call_checks, tm32_asks::specs::Checks::verdict))]
+pub fn fresh(memory: &mut LentMemory) -> Result<Session, Refusal>
+    ensures same_slices { SameSlices memory.old memory.new }
+    ensures outcome { started_by result (held memory.new) ≡ starting (held memory.old) }
 {
-    if flash.len() != FLASH_LENGTH as usize {
-        return Begun::Refused { number: 1 };
-    }
-    if ram.len() != RAM_LENGTH as usize {
-        return Begun::Refused { number: 2 };
-    }
-    if nvr.len() != NVR_LENGTH as usize {
-        return Begun::Refused { number: 3 };
-    }
-    memory::fill(flash, 0, FLASH_LENGTH as usize, BLANK);
-    memory::fill(ram, 0, RAM_LENGTH as usize, 0);
-    memory::fill(nvr, 0, NVR_LENGTH as usize, 0);
-    memory::store(nvr, OPTIONS_PLACE, &OPTIONS);
-    Begun::Ready {
-        session: Session::start(Link::Uart),
+    check(memory.flash.len(), FLASH_LENGTH, Refusal::FlashLength)?;
+    check(memory.ram.len(), RAM_LENGTH, Refusal::RamLength)?;
+    check(memory.nvr.len(), NVR_LENGTH, Refusal::NvrLength)?;
+    memory.flash.fill(BLANK);
+    memory.ram.fill(0);
+    memory.nvr.fill(0);
+    memory.nvr[OPTIONS_PLACE..OPTIONS_PLACE + OPTIONS.len()].copy_from_slice(&OPTIONS);
+    Ok(Session::start(Link::Uart))
+}
+
+// Whether memory has its length.
+fn check(length: usize, right: u32, refusal: Refusal) -> Result<(), Refusal>
+    ensures { MatchResult result (λ _. length ≡ right) (λ error. (length ≢ right) × (error ≡ refusal)) }
+{
+    if length == right as usize {
+        Ok(())
+    } else {
+        Err(refusal)
     }
 }
 
 // The settings of that device.
+#[tactic(auto, unfolding(tm32::specs::Fresh::fresh_settings))]
 pub fn fresh_settings() -> Settings
     ensures { result ≡ fresh_settings }
 {

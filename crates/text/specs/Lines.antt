@@ -1,14 +1,14 @@
 -- Where a line ends, and a line of text as a message: bytes in hex as they stand; or, behind a >, a command and its data, which are framed.
-use Rattle.std.specs.Prelude.{ℕ, suc, ◌+◌, Bool, cond, List, [], ◌∷◌, eqb, drop, get_or}
+use Rattle.std.specs.Prelude.{ℕ, suc, ◌+◌, Bool, cond, List, [], ◌∷◌, eqb, drop, get_or, Option, None, Some, Result, Ok, Err}
 use Rattle.frame.specs.Frame.{writing}
 use Rattle.frame.specs.Frame as frames
-use Rattle.frame.specs.declared.Written.{Written}
-use Rattle.frame.specs.declared.Written.TheVariants as written
+use Rattle.frame.specs.declared.WriteError.{WriteError}
+use Rattle.frame.specs.declared.WriteError.TheVariants as write
 use Rattle.text.specs.Hex.{Read, bytes_in, hex_from}
-use Rattle.text.specs.declared.Hex.{Hex}
-use Rattle.text.specs.declared.Hex.TheVariants as hex
-use Rattle.text.specs.declared.Line.{Line}
-use Rattle.text.specs.declared.Line.TheVariants.{Nothing, Message, NotHex, NoCommand, TooLong, NoRoom}
+use Rattle.text.specs.declared.HexError.{HexError}
+use Rattle.text.specs.declared.HexError.TheVariants as hex
+use Rattle.text.specs.declared.LineError.{LineError}
+use Rattle.text.specs.declared.LineError.TheVariants.{NotHex, NoCommand, TooLong, NoRoom}
 
 -- The character that ends a line.
 abbrev pub newline : ℕ
@@ -23,43 +23,50 @@ until_newline (c ∷ rest) = cond (eqb c newline) 0 (suc (until_newline rest))
 abbrev pub line_end : List ℕ → ℕ → ℕ
 line_end text from = from + until_newline (drop from text)
 
--- What comes of a line: the answer, and the message's buffer afterwards.
+-- What comes of a line: how long its message is, if it has one, or why it is refused; and the message's buffer afterwards.
 pub record Lined : Type 0 where
-  pub answer : Line
+  pub answer : Result (Option ℕ) LineError
   pub message : List ℕ
 
 -- The two put together.
-abbrev pub lined : Line → List ℕ → Lined
+abbrev pub lined : Result (Option ℕ) LineError → List ℕ → Lined
 lined answer message = record { answer = answer; message = message }
 
+-- What a refusal by the reader of hex is for a line.
+abbrev pub hex_refused : HexError → LineError
+hex_refused (hex.NotHex place) = NotHex place
+hex_refused hex.NoRoom = NoRoom
+
+-- What a refusal by the writer of frames is for a line.
+abbrev pub frame_refused : WriteError → LineError
+frame_refused write.TooLong = TooLong
+frame_refused write.NoRoom = NoRoom
+
 -- What an answer of the reader of hex is for a line. No bytes are no message.
-unfoldable pub plain : Hex → Line
-plain (hex.Bytes count) = cond (eqb count 0) Nothing (Message count)
-plain (hex.NotHex place) = NotHex place
-plain hex.NoRoom = NoRoom
+unfoldable pub plain : Result ℕ HexError → Result (Option ℕ) LineError
+plain (Ok count) = Ok (cond (eqb count 0) None (Some count))
+plain (Err error) = Err (hex_refused error)
 
 -- A line of hex, as it stands.
 abbrev pub plainly : Read → Lined
 plainly read = lined (plain read.answer) read.buffer
 
 -- What an answer of the writer of frames is for a line.
-unfoldable pub framed : Written → Line
-framed (written.Frame size) = Message size
-framed written.TooLong = TooLong
-framed written.NoRoom = NoRoom
+unfoldable pub framed : Result ℕ WriteError → Result (Option ℕ) LineError
+framed (Ok size) = Ok (Some size)
+framed (Err error) = Err (frame_refused error)
 
 -- The frame of a command and its data, whose CRC starts from a value.
 unfoldable pub commanding : ℕ → List ℕ → List ℕ → Lined
-commanding start [] message = lined NoCommand message
+commanding start [] message = lined (Err NoCommand) message
 commanding start (command ∷ payload) message =
     let outcome : frames.Outcome = writing start command payload message in
     lined (framed outcome.answer) outcome.buffer
 
 -- Behind a >: what an answer of the reader of hex comes to, where it has found some bytes.
-unfoldable pub framing : ℕ → Hex → List ℕ → List ℕ → Lined
-framing start (hex.Bytes count) bytes message = commanding start bytes message
-framing start (hex.NotHex place) bytes message = lined (NotHex place) message
-framing start hex.NoRoom bytes message = lined NoRoom message
+unfoldable pub framing : ℕ → Result ℕ HexError → List ℕ → List ℕ → Lined
+framing start (Ok count) bytes message = commanding start bytes message
+framing start (Err error) bytes message = lined (Err (hex_refused error)) message
 
 -- What comes of a line, with the scratch buffer afterwards.
 pub record Outcome : Type 0 where

@@ -1,40 +1,23 @@
 // A number of 16 bits in hex.
-ghost use Rattle.std.specs.Prelude.{◌≡◌, ◌≤◌, length};
-ghost use Rattle.text.specs.Numbers.{word_from, word_in};
+ghost use Rattle.std.specs.Prelude.{◌≡◌};
+ghost use Rattle.text.specs.Numbers.{word_in};
 
-use crate::Word;
-use crate::reader::{NO_DIGIT, digit_of};
+use crate::reader::digit_of;
 
 // The most digits that 16 bits take.
 const MOST_DIGITS: usize = 4;
 
-// The number that one to four digits write, the highest first.
-pub fn word_in(digits: &[u8]) -> Word
+// The number that one to four digits write, the highest first. `from_str_radix` would take a sign too.
+#[tactic(auto, using(crate::proofs::Digits::written_digits), unfolding(crate::specs::Numbers::word_in))]
+pub fn word_in(digits: &[u8]) -> Option<u16>
     ensures { result ≡ word_in digits.now }
 {
-    if digits.len() == 0 {
-        return Word::NotHex;
+    if digits.is_empty() || MOST_DIGITS < digits.len() {
+        return None;
     }
-    if MOST_DIGITS < digits.len() {
-        return Word::NotHex;
+    let mut number = 0;
+    for &character in digits {
+        number = 16 * number + u16::from(digit_of(character)?);
     }
-    walk(digits)
-}
-
-// The same of so few characters that their number fits.
-fn walk(digits: &[u8]) -> Word
-    requires { length digits.now ≤ 4 }
-    ensures { result ≡ word_from 0 digits.now }
-{
-    let mut value = 0;
-    let mut place = 0;
-    while place < digits.len() {
-        let digit = digit_of(digits[place]);
-        if NO_DIGIT <= digit {
-            return Word::NotHex;
-        }
-        value = 16 * value + digit as u16;
-        place += 1;
-    }
-    Word::Value { value }
+    Some(number)
 }

@@ -1,90 +1,55 @@
 // Bytes in hex: two digits a byte, with blanks or nothing between two bytes.
 ghost use Rattle.std.specs.Prelude.{◌≡◌, drop, set};
-ghost use Rattle.text.specs.Hex.{bytes_in, digit_of, hex_from, is_blank, read};
-ghost use Rattle.text.specs.Walk.{Stands, walking};
+ghost use Rattle.text.specs.Hex.{bytes_in, digit_of, hex_from, read};
+ghost use Rattle.text.specs.Walk.{walking};
 
-use crate::{Hex, Next};
+use crate::HexError;
 
 // The character that starts a comment.
 const HASH: u8 = b'#';
 
-// The number that stands for no digit.
-pub(crate) const NO_DIGIT: u8 = 16;
-
-// Reads a line from a place on, and lays its bytes over the start of a buffer. A refusal leaves every byte of it alone.
-pub fn bytes_in(line: &[u8], from: usize, buffer: &mut [u8]) -> Hex
+// Reads a line from a place on, and lays its bytes over the start of a buffer: so many. A refusal leaves every byte of it alone.
+#[tactic(auto, using(crate::proofs::Endings::stored), unfolding(crate::specs::Hex::bytes_in, crate::specs::Hex::reading, crate::specs::Walk::walking, crate::specs::Walk::counted))]
+pub fn bytes_in(line: &[u8], from: usize, buffer: &mut [u8]) -> Result<usize, HexError>
     ensures { read result buffer.new ≡ bytes_in line.now from buffer.old }
 {
     // The first walk has no room: it only counts.
-    match walk(line, from, &mut buffer[..0]) {
-        Hex::Bytes { count } => {
-            if buffer.len() < count {
-                return Hex::NoRoom;
-            }
-            walk(line, from, buffer)
-        }
-        Hex::NotHex { place } => Hex::NotHex { place },
-        Hex::NoRoom => Hex::NoRoom,
+    let count = walk(line, from, &mut [])?;
+    if buffer.len() < count {
+        return Err(HexError::NoRoom);
     }
+    walk(line, from, buffer)
 }
 
 // Counts the bytes of a line from a place on, and stores those for which the buffer has room.
-fn walk(line: &[u8], from: usize, buffer: &mut [u8]) -> Hex
+#[tactic(auto, using(crate::proofs::Digits::below_16), unfolding(crate::specs::Hex::hex_from, crate::specs::Hex::second_from, crate::specs::Hex::is_blank, crate::specs::Walk::walking, crate::specs::Walk::counted))]
+fn walk(line: &[u8], from: usize, buffer: &mut [u8]) -> Result<usize, HexError>
     ensures { read result buffer.new
         ≡ walking 0 (hex_from (drop from line.now) from) buffer.old }
 {
     let mut count = 0;
-    let mut place = from;
-    while place < line.len() {
-        match next_in(line, place) {
-            Next::End => return Hex::Bytes { count },
-            Next::Wrong { place: wrong } => return Hex::NotHex { place: wrong },
-            Next::Blank { next } => {
-                place = next;
-            }
-            Next::Byte { value, next } => {
-                put(buffer, count, value);
+    let mut rest = line.get(from..).unwrap_or(&[]);
+    loop {
+        let place = line.len() - rest.len();
+        match rest {
+            [] | [HASH, ..] => return Ok(count),
+            [b' ' | b'\t' | b'\r', behind @ ..] => rest = behind,
+            [first, behind @ ..] => {
+                let high = digit_of(*first).ok_or(HexError::NotHex { place })?;
+                // Inside a byte only the second digit is right.
+                let wrong = HexError::NotHex { place: place + 1 };
+                let (second, behind) = behind.split_first().ok_or(wrong)?;
+                let low = digit_of(*second).ok_or(wrong)?;
+                put(buffer, count, 16 * high + low);
                 count += 1;
-                place = next;
+                rest = behind;
             }
         }
-    }
-    Hex::Bytes { count }
-}
-
-// What stands at a place of a line.
-fn next_in(line: &[u8], place: usize) -> Next
-    ensures { Stands result line.now place }
-{
-    if line.len() <= place {
-        return Next::End;
-    }
-    let first = line[place];
-    if first == HASH {
-        return Next::End;
-    }
-    let after = place + 1;
-    if is_blank(first) {
-        return Next::Blank { next: after };
-    }
-    let high = digit_of(first);
-    if NO_DIGIT <= high {
-        return Next::Wrong { place };
-    }
-    if line.len() <= after {
-        return Next::Wrong { place: after };
-    }
-    let low = digit_of(line[after]);
-    if NO_DIGIT <= low {
-        return Next::Wrong { place: after };
-    }
-    Next::Byte {
-        value: 16 * high + low,
-        next: after + 1,
     }
 }
 
 // Stores a byte where there is room for it.
+// By place: through what `get_mut` or `iter_mut` lends the proof does not close.
 fn put(buffer: &mut [u8], place: usize, value: u8)
     ensures { buffer.new ≡ set buffer.old place value }
 {
@@ -93,26 +58,11 @@ fn put(buffer: &mut [u8], place: usize, value: u8)
     }
 }
 
-fn is_blank(character: u8) -> bool
-    ensures { result ≡ is_blank character }
-{
-    if character == b' ' {
-        return true;
-    }
-    if character == b'\t' {
-        return true;
-    }
-    character == b'\r'
-}
-
-// The number that a digit stands for, and 16 for a character that is none.
-pub fn digit_of(character: u8) -> u8
+// The number that a digit stands for.
+#[tactic(auto, unfolding(crate::specs::Hex::digit_of))]
+pub fn digit_of(character: u8) -> Option<u8>
     ensures { result ≡ digit_of character }
 {
-    match character {
-        b'0'..=b'9' => character - b'0',
-        b'A'..=b'F' => character - b'A' + 10,
-        b'a'..=b'f' => character - b'a' + 10,
-        _ => NO_DIGIT,
-    }
+    let digit = char::from(character).to_digit(16)?;
+    Some(digit as u8)
 }

@@ -2,7 +2,7 @@
 use Prim.Native.Nat.{ℕ}
 use mathlib.Core.Bool.{Bool, true, false, cond}
 use mathlib.Core.List.{List, []}
-use mathlib.Core.Path.{◌≡◌, refl, ap, ap₂, ◌∙◌}
+use mathlib.Core.Path.{◌≡◌, refl, sym, ap, ap₂, ◌∙◌}
 use native.Mathlib.Omega.{arith}
 use lib.Dec.{eqb}
 use lib.ListN.{length}
@@ -10,28 +10,30 @@ use borrow.Author.Tests.{eq-eqb, ne_eqb}
 use Rattle.frame.specs.Frame.{frame, laid}
 use Rattle.tm32.specs.After.{after, call_checks, lay, no_reply, replied, tell, telling}
 use Rattle.tm32_asks.specs.Checks.{verdict}
-use Rattle.tm32.specs.Device.{Device, device_of, memory_of}
-use Rattle.tm32.specs.Promises.{Laid, lay_answer, leaves, turn_of}
+use Rattle.tm32.specs.Device.{Device, Memory, device_of}
+use Rattle.tm32.specs.Promises.{Laid, call_number, lay_answer, leaves, turn_of}
+use Rattle.std.specs.Prelude.{Err, Ok}
 use Rattle.tm32.specs.Respond.{Answered, answered, refuse, reply_to, respond, serve, verdict_on}
 use Rattle.tm32_asks.specs.Results.{work_done}
 use Rattle.tm32.specs.Work.{work}
-use Rattle.tm32.specs.declared.Answer.TheVariants.{Refused, Reply}
+use Rattle.tm32.specs.declared.Refusal.{Refusal}
+use Rattle.tm32.specs.declared.Refusal.TheVariants.{FlashLength, RamLength, NvrLength, NoRoom, NoSuchRate}
 use Rattle.tm32_asks.specs.declared.Request.{Request}
 use Rattle.tm32.specs.declared.Session.{Session}
 use Rattle.tm32.specs.declared.Settings.{Settings}
 use Rattle.tm32.specs.declared.Turn.{Turn}
 
-module _ (flash ram nvr : List ℕ) {turn : Turn} {after buffer : List ℕ} {session : Session} where
+module _ (memory : Memory) {turn : Turn} {after buffer : List ℕ} {session : Session} where
   -- the device and the reply are those of an answer
-  pub answers : {reply : List ℕ} {answer : Answered} → Laid turn after session reply buffer → answered (device_of session (memory_of flash ram nvr)) reply ≡ answer
-      → leaves turn flash ram nvr after ≡ lay_answer buffer answer
+  pub answers : {reply : List ℕ} {answer : Answered} → Laid turn after session reply buffer → answered (device_of session memory) reply ≡ answer
+      → leaves turn memory after ≡ lay_answer buffer answer
   unfolding lay
   answers did same =
-      ap₂ (λ (one : Turn) (list : List ℕ). leaves one flash ram nvr list) did.handed did.over
+      ap₂ (λ (one : Turn) (list : List ℕ). leaves one memory list) did.handed did.over
       ∙ ap (lay_answer buffer) same
 
 -- nothing laid over a buffer
-pub nothing_laid : {turn : Turn} {session : Session} (buffer : List ℕ) → turn ≡ turn_of session (Reply 0) → Laid turn buffer session [] buffer
+pub nothing_laid : {turn : Turn} {session : Session} (buffer : List ℕ) → turn ≡ turn_of session (Ok 0) → Laid turn buffer session [] buffer
 unfolding laid
 nothing_laid buffer handed = record { handed = handed; over = refl }
 
@@ -50,12 +52,14 @@ module _ (settings : Settings) (device : Device) where
       works ∙ ap (serve settings device payload) same
 
   -- a call is told the number of a check that fails, and is heard where none does
-  pub unheard : (message buffer : List ℕ) {turn : Turn} (number : ℕ) → verdict 0 (call_checks device (length buffer)) ≡ number → eqb number 0 ≡ false
-      → turn ≡ turn_of device.session (Refused number)
-      → leaves turn device.memory.flash device.memory.ram device.memory.nvr buffer ≡ after settings device message buffer
+  pub unheard : (message buffer : List ℕ) (refusal : Refusal) → call_number (Err refusal) ≡ verdict 0 (call_checks device (length buffer))
+      → leaves (turn_of device.session (Err refusal)) device.memory buffer ≡ after settings device message buffer
   unfolding after tell lay
-  unheard message buffer number told some handed =
-      ap (λ (one : Turn). leaves one device.memory.flash device.memory.ram device.memory.nvr buffer) handed ∙ simp (told, some)
+  unheard message buffer FlashLength told = simp (sym told)
+  unheard message buffer RamLength told = simp (sym told)
+  unheard message buffer NvrLength told = simp (sym told)
+  unheard message buffer NoRoom told = simp (sym told)
+  unheard message buffer NoSuchRate told = simp (sym told)
 
   pub heard : (message buffer : List ℕ) → verdict 0 (call_checks device (length buffer)) ≡ 0 → lay_answer buffer (respond settings device message) ≡ after settings device message buffer
   unfolding after tell

@@ -1,12 +1,15 @@
 -- Ranges in the regions of the map, and in a memory of a region's length.
-use Prim.Native.Nat.{ℕ, ◌+◌, ◌<◌, ◌≤◌}
-use mathlib.Core.Bool.{Bool, true, false, ◌||◌}
+use Prim.Native.Nat.{ℕ, ◌+◌, ◌-◌, ◌<◌, ◌≤◌}
+use mathlib.Core.Bool.{Bool, true, false, cond, false≢true, ◌||◌}
+use mathlib.Core.List.{List}
 use mathlib.Core.Path.{◌≡◌, refl, sym, ap, ◌∙◌}
 use native.Mathlib.Omega.{arith}
 use borrow.Author.Tests.{le-leb, lt-leb}
 use Rattle.memory.proofs.Laws.{in_region, region_holds}
 use Rattle.memory.specs.Ranges.{within}
-use Rattle.tm32_asks.specs.Map.{in_flash, in_flash_or_ram, in_nvr, in_ram, in_read_region, in_user_nvr, in_user_region}
+use Rattle.memory.specs.Stores.{part}
+use Rattle.tm32.specs.Device.{Memory, bytes_at}
+use Rattle.tm32_asks.specs.Map.{flash_start, nvr_start, ram_start, in_flash, in_flash_or_ram, in_nvr, in_ram, in_read_region, in_user_nvr, in_user_region, user_nvr_length, user_nvr_start}
 
 -- a range in a region lies in a memory of the region's length
 pub held : {size long : ℕ} (start address count : ℕ) → long ≡ size → within start size address count ≡ true → within start long address count ≡ true
@@ -57,3 +60,25 @@ module _ (address count : ℕ) where
     wider in_user =
         let ends = region_holds _ _ _ _ in_user in
         in_region _ _ _ _ (omega arith) (omega arith)
+
+  -- what Write may name lies in NVR5 and NVR6 where it is in neither flash nor RAM
+  pub user_elsewhere : in_user_region address count ≡ true → in_flash address count ≡ false → in_ram address count ≡ false
+      → (user_nvr_start ≤ address) × (address + count ≤ user_nvr_start + user_nvr_length)
+  unfolding in_user_region
+  user_elsewhere user outside outside' = region_holds _ _ _ _ (simp (outside, outside') at user)
+
+  -- the bytes of a range in the NVR, and of one in flash or RAM
+  pub bytes_in_nvr : (memory : Memory) → in_nvr address count ≡ true → bytes_at memory address count ≡ part memory.nvr (address - nvr_start) count
+  unfolding bytes_at
+  bytes_in_nvr memory inside =
+      let apart = nvr_apart inside in
+      simp (apart.0, apart.1)
+
+  pub bytes_of_two : (memory : Memory) → in_flash_or_ram address count ≡ true
+      → bytes_at memory address count ≡ cond (in_flash address count) (part memory.flash (address - flash_start) count) (part memory.ram (address - ram_start) count)
+  unfolding bytes_at
+  bytes_of_two memory inside = either (in_flash address count) (in_ram address count) _ _ _ inside where
+    either : (one other : Bool) (here there elsewhere : List ℕ) → one || other ≡ true → cond one here (cond other there elsewhere) ≡ cond one here there
+    either true other here there elsewhere some = refl
+    either false true here there elsewhere some = refl
+    either false false here there elsewhere some = absurd (false≢true some)

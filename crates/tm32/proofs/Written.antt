@@ -1,18 +1,26 @@
--- How long memory is after erases and wipes that it has room for, and how much is read of it.
-use Prim.Native.Nat.{ℕ, ◌+◌, ◌≤◌}
+-- Pages of the flash that are erased; how long memory is after erases and wipes that it has room for, and how much is read of it.
+use Prim.Native.Nat.{ℕ, ◌+◌, ◌*◌, ◌≤◌}
 use mathlib.Core.List.{List}
 use mathlib.Core.Path.{◌≡◌, ◌∙◌}
 use native.Mathlib.Omega.{arith}
 use lib.Dec.{lit<}
-use lib.ListN.{length, length-take, drop}
-use Rattle.memory.specs.Stores.{part}
+use lib.ListN.{length, length-take, drop, replicate}
+use Rattle.memory.specs.Erases.{erased_pages}
+use Rattle.std.specs.Prelude.{Ok}
+use Rattle.memory.specs.Stores.{change, part, replacing}
 use Rattle.memory.proofs.Choices.{of_both}
-use Rattle.memory.proofs.Laws.{length_part}
-use Rattle.memory.proofs.PageLaws.{erase_length, wipe_length}
+use Rattle.memory.proofs.Laws.{length_part, stored}
+use Rattle.memory.proofs.PageLaws.{erase_fits, erase_length, wipe_length}
 use Rattle.tm32.specs.Device.{Memory, bytes_at}
 use Rattle.tm32_asks.specs.Map.{blank, flash_length, in_flash, in_ram, nvr_length, options_length, page_count, page_size}
 use Rattle.tm32_asks.specs.Options.{option_bytes}
 use Rattle.tm32.specs.Work.{erased, wiped, wipes}
+
+-- pages of the flash that are filled are erased
+pub filled : (flash : List ℕ) (first count : ℕ) → length flash ≡ flash_length → first + count ≤ page_count
+    → replacing flash (first * page_size) (replicate (count * page_size) blank) ≡ change (Ok tt) (erased flash first count)
+unfolding erased erased_pages
+filled flash first count long known = stored flash _ _ (erase_fits page_size blank (lit< tt) page_count flash long first count known)
 
 -- an erase keeps the flash's length
 pub erased_length : (flash : List ℕ) (first count : ℕ) → length flash ≡ flash_length → first + count ≤ page_count → length (erased flash first count) ≡ flash_length

@@ -6,8 +6,8 @@ use Rattle.tm32.specs.Device.{Device}
 use Rattle.tm32_asks.specs.Map.{flash_length, nvr_length, ram_length}
 use Rattle.tm32_asks.specs.Rates.{is_rate}
 use Rattle.tm32.specs.Respond.{respond, Answered}
-use Rattle.tm32.specs.declared.Answer.{Answer}
-use Rattle.tm32.specs.declared.Answer.TheVariants.{Reply, Refused}
+use Rattle.tm32.specs.declared.Refusal.{Refusal}
+use Rattle.tm32.specs.declared.Refusal.TheVariants.{FlashLength, RamLength, NvrLength, NoRoom, NoSuchRate}
 use Rattle.tm32.specs.declared.Settings.{Settings}
 
 -- How long a lent reply buffer must be at least: room for a frame with as much data as a Read gives.
@@ -23,6 +23,14 @@ call_checks device room =
     ∷ check (ltb room reply_room) 4
     ∷ check (not (is_rate device.session.rate)) 5
     ∷ []
+
+-- The number by which the code's word for each of them is told.
+abbrev pub refusal_number : Refusal → ℕ
+refusal_number FlashLength = 1
+refusal_number RamLength = 2
+refusal_number NvrLength = 3
+refusal_number NoRoom = 4
+refusal_number NoSuchRate = 5
 
 -- What the caller is told: the reply to hand on, or that there is none, with a number from 1 to 5.
 pub data Told : Type 0 where
@@ -44,6 +52,11 @@ tell settings device message room =
     let number : ℕ = verdict 0 (call_checks device room) in
     let response : Answered = respond settings device message in
     cond (eqb number 0) (telling response.device (replied response.reply)) (telling device (no_reply number))
+
+-- The answer that is handed back: how long a reply stands in the lent buffer, or that nothing was done, with a number from 1 to 5.
+pub data Answer : Type 0 where
+  Reply : ℕ → Answer
+  Refused : ℕ → Answer
 
 -- All that a message leaves behind: the device, the answer, and the lent reply buffer.
 pub record After : Type 0 where

@@ -4,12 +4,12 @@ use Rattle.frame.specs.Crc.{crc}
 use Rattle.memory.specs.Erases.{erased_pages, wiped_pages}
 use Rattle.memory.specs.Stores.{kept, replaced, same}
 use Rattle.memory.specs.declared.Programmed.{Programmed}
-use Rattle.memory.specs.declared.Programmed.TheVariants.{AsGiven, Differs, Outside}
+use Rattle.memory.specs.declared.Programmed.TheVariants.{AsGiven, Differs}
 use Rattle.tm32.specs.Device.{Device, Memory, at_rate, bytes_at, in_state, memory_of, with_flash, with_memory, with_nvr, with_ram, with_session}
 use Rattle.tm32_asks.specs.Map.{blank, flash_start, in_flash, in_ram, nvr_start, options_start, page_count, page_size, ram_start}
 use Rattle.tm32_asks.specs.Numbers.{long}
 use Rattle.tm32_asks.specs.Options.{option_bytes, rdp_on}
-use Rattle.tm32_asks.specs.Results.{readback_differs, work_done, wrong_address, wrong_shape, wrong_crc}
+use Rattle.tm32_asks.specs.Results.{readback_differs, work_done, wrong_shape, wrong_crc}
 use Rattle.tm32_asks.specs.declared.Request.{Request}
 use Rattle.tm32_asks.specs.declared.Request.TheVariants.{Pps, Get, Read, Write, MemoryCrc, Erase, Go, WriteOptions, ReadOptions, HeartBeat, Misshapen}
 use Rattle.tm32.specs.declared.Settings.{Settings}
@@ -68,12 +68,10 @@ written memory address bytes =
     (cond (in_ram address (length bytes)) (with_ram memory (replaced memory.ram (address - ram_start) bytes))
     (with_nvr memory (replaced memory.nvr (address - nvr_start) bytes)))
 
--- What the answer of programming comes to in 01's numbers, for a write with a flag: where some byte is not what was sent, flag 1 is told so. What was written stays either way. Bytes that reach past the
--- flash would be at a wrong address; the checks let none of them through.
+-- What the answer of programming comes to in 01's numbers, for a write with a flag: where some byte is not what was sent, flag 1 is told so. What was written stays either way.
 unfoldable pub programmed_result : ℕ → Programmed → ℕ
 programmed_result flag AsGiven = work_done
 programmed_result flag Differs = cond (eqb flag 1) readback_differs work_done
-programmed_result flag Outside = wrong_address
 
 -- The result of a write, by whether each byte is now what was sent.
 unfoldable pub readback : ℕ → ℕ → List ℕ → Memory → ℕ

@@ -8,6 +8,7 @@ use tm32_asks::PAGE_SIZE;
 // An erased byte.
 const BLANK: u8 = 0xFF;
 
+#[tactic(auto, using(crate::proofs::Written::filled))]
 pub(crate) fn work(flash: &mut [u8], first: u32, count: u32)
     requires flash_sized { length flash.old ≡ flash_length }
     requires inside { first + count ≤ page_count }
@@ -18,5 +19,6 @@ pub(crate) fn work(flash: &mut [u8], first: u32, count: u32)
         (first * PAGE_SIZE) as usize,
         (count * PAGE_SIZE) as usize,
         BLANK,
-    );
+    )
+    .unwrap();
 }

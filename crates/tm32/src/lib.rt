@@ -2,17 +2,23 @@
 
 #![tactic(auto)]
 
+ghost use Rattle.std.specs.Prelude.{◌≡◌};
+ghost use Rattle.tm32.specs.After.{refusal_number};
+
+use std::error::Error;
+use std::fmt;
+
 mod device;
 mod erase;
 mod get;
 mod go;
 mod heart_beat;
+mod mapped;
 mod memory_crc;
 mod pps;
 mod read;
 mod read_options;
 mod replies;
-mod results;
 mod sessions;
 mod start_value;
 mod write;
@@ -23,7 +29,7 @@ pub use device::REPLY_ROOM;
 pub use tm32_asks::{FLASH_LENGTH, Link, NVR_LENGTH, RAM_LENGTH};
 
 // Where a session stands.
-#[derive(Clone, Copy)]
+#[derive(Clone, Copy, Debug, PartialEq, Eq)]
 pub enum State {
     // No handshake yet.
     Waiting,
@@ -34,7 +40,7 @@ pub enum State {
 }
 
 // A session, a value that each message takes and gives back. The rate is the code of PPS, and not bits per second.
-#[derive(Clone, Copy)]
+#[derive(Clone, Copy, Debug, PartialEq, Eq)]
 pub struct Session {
     pub state: State,
     pub link: Link,
@@ -43,7 +49,7 @@ pub struct Session {
 
 // What Get tells of the chip, and what its CRCs start from, in frames both ways and in Memory CRC. All of it is given at the start.
 // Version and serial are sent as the bytes that they are here.
-#[derive(Clone, Copy)]
+#[derive(Clone, Copy, Debug, PartialEq, Eq)]
 pub struct Settings {
     pub version: [u8; 2],
     pub serial: [u8; 12],
@@ -53,18 +59,53 @@ pub struct Settings {
     pub start: u16,
 }
 
-// What comes of a message.
-#[derive(Clone, Copy)]
-pub enum Answer {
-    // A reply of this length stands at the start of the lent buffer.
-    Reply { length: usize },
-    // Nothing was done, and 01's number, 1 to 5, says why.
-    Refused { number: u8 },
+// The memory that is lent for a message.
+#[derive(Drop)]
+pub struct LentMemory<'a> {
+    pub flash: &'a mut [u8],
+    pub ram: &'a mut [u8],
+    pub nvr: &'a mut [u8],
 }
 
-// What a message leaves behind: the session from then on, and the answer.
-#[derive(Clone, Copy)]
+// Why nothing was done, each with 01's number.
+#[derive(Clone, Copy, Debug, PartialEq, Eq)]
+pub enum Refusal {
+    // The flash, the RAM or the NVR that is lent is not as long as the map says.
+    FlashLength = 1,
+    RamLength = 2,
+    NvrLength = 3,
+    // The lent buffer has too little room for a reply.
+    NoRoom = 4,
+    // The session's rate code names no rate.
+    NoSuchRate = 5,
+}
+
+impl fmt::Display for Refusal {
+    fn fmt<W: fmt::Write>(&self, f: &mut fmt::Formatter<W>) -> fmt::Result {
+        f.write_str(match self {
+            Refusal::FlashLength => "refused, the flash has a wrong length",
+            Refusal::RamLength => "refused, the RAM has a wrong length",
+            Refusal::NvrLength => "refused, the NVR has a wrong length",
+            Refusal::NoRoom => "refused, no room for a reply",
+            Refusal::NoSuchRate => "refused, no such rate code",
+        })
+    }
+}
+
+impl Error for Refusal {}
+
+impl Refusal {
+    // 01's number for it, 1 to 5.
+    pub fn number(self) -> u8
+        ensures { result ≡ refusal_number self }
+    {
+        self as u8
+    }
+}
+
+// What a message leaves behind: the session from then on, and the length of the reply that stands at the start of the lent buffer.
+#[derive(Clone, Copy, Debug, PartialEq, Eq)]
 pub struct Turn {
     pub session: Session,
-    pub answer: Answer,
+    pub answer: Result<usize, Refusal>,
 }

@@ -1,30 +1,27 @@
 // Memory CRC compares: the frame's own CRC over a range, from the same start value, against the one that was sent.
-ghost use Rattle.std.specs.Prelude.{true, ◌≡◌, length};
-ghost use Rattle.tm32.specs.Device.{memory_of};
-ghost use Rattle.tm32_asks.specs.Map.{flash_length, in_user_region, nvr_length, ram_length};
+ghost use Rattle.std.specs.Prelude.{true, ◌≡◌};
+ghost use Rattle.tm32.specs.Promises.{held, lent_of};
+ghost use Rattle.tm32_asks.specs.Map.{in_user_region};
+ghost use Rattle.tm32_asks.specs.Results.{number_of};
 ghost use Rattle.tm32.specs.Work.{compared};
 
+use crate::mapped::MappedMemory;
 use crate::read;
-use crate::results::WRONG_CRC;
-use tm32_asks::WORK_DONE;
+use tm32_asks::Complaint;
 
-pub(crate) fn work<'a>(
+#[tactic(auto, unfolding(crate::specs::Work::compared), using(crate::proofs::Regions::user_is_read))]
+pub(crate) fn work(
     start: u16,
-    flash: &'a [u8],
-    ram: &'a [u8],
-    nvr: &'a [u8],
+    memory: &MappedMemory,
     address: u32,
     count: u32,
     wanted: u16,
-) -> u8
-    requires flash_sized { length flash.now ≡ flash_length }
-    requires ram_sized { length ram.now ≡ ram_length }
-    requires nvr_sized { length nvr.now ≡ nvr_length }
-    requires inside { in_user_region address count ≡ true }
-    ensures { result ≡ compared start (memory_of flash.now ram.now nvr.now) address count wanted }
+) -> Result<(), Complaint>
+    requires { in_user_region address count ≡ true }
+    ensures { number_of result ≡ compared start (held (lent_of memory.now)) address count wanted }
 {
-    if frame::crc(start, read::work(flash, ram, nvr, address, count)) == wanted {
-        return WORK_DONE;
+    if frame::crc(start, read::work(memory, address, count)) == wanted {
+        return Ok(());
     }
-    WRONG_CRC
+    Err(Complaint::WrongCrc)
 }

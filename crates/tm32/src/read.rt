@@ -2,32 +2,27 @@
 ghost use Rattle.std.specs.Prelude.{cond, true, ◌≡◌, ◌-◌, length};
 ghost use Rattle.memory.specs.Ranges.{within};
 ghost use Rattle.memory.specs.Stores.{part};
-ghost use Rattle.tm32.specs.Device.{bytes_at, memory_of};
-ghost use Rattle.tm32_asks.specs.Map.{flash_length, flash_start, in_flash, in_flash_or_ram, in_read_region, nvr_length, ram_length, ram_start};
+ghost use Rattle.tm32.specs.Device.{bytes_at};
+ghost use Rattle.tm32.specs.Promises.{held, lent_of};
+ghost use Rattle.tm32_asks.specs.Map.{flash_length, flash_start, in_flash, in_flash_or_ram, in_read_region, ram_length, ram_start};
 
+use crate::mapped::MappedMemory;
 use tm32_asks::{FLASH_START, NVR_START, RAM_START, in_flash, in_nvr};
 
 // The bytes of a range in flash, RAM or NVR.
-pub(crate) fn work<'a>(
-    flash: &'a [u8],
-    ram: &'a [u8],
-    nvr: &'a [u8],
-    address: u32,
-    count: u32,
-) -> &'a [u8]
-    requires flash_sized { length flash.now ≡ flash_length }
-    requires ram_sized { length ram.now ≡ ram_length }
-    requires nvr_sized { length nvr.now ≡ nvr_length }
-    requires inside { in_read_region address count ≡ true }
-    ensures { result.now ≡ bytes_at (memory_of flash.now ram.now nvr.now) address count }
+#[tactic(auto, using(crate::proofs::Regions::held, crate::proofs::Regions::not_in_nvr, crate::proofs::Regions::bytes_in_nvr, crate::proofs::Regions::bytes_of_two))]
+pub(crate) fn work<'a>(memory: &'a MappedMemory, address: u32, count: u32) -> &'a [u8]
+    requires { in_read_region address count ≡ true }
+    ensures { result.now ≡ bytes_at (held (lent_of memory.now)) address count }
 {
     if in_nvr(address, count) {
-        return range_of(nvr, NVR_START, address, count);
+        return range_of(memory.nvr, NVR_START, address, count);
     }
-    picked(flash, ram, address, count)
+    picked(memory.flash, memory.ram, address, count)
 }
 
-// The bytes of a range in flash or RAM: the address says in which.
+// The bytes of a range in flash or RAM: the address says in which. The two slices stay apart: document 01 names this form.
+#[tactic(auto, using(crate::proofs::Regions::held, crate::proofs::Regions::not_in_flash))]
 fn picked<'a>(flash: &'a [u8], ram: &'a [u8], address: u32, count: u32) -> &'a [u8]
     requires flash_sized { length flash.now ≡ flash_length }
     requires ram_sized { length ram.now ≡ ram_length }
@@ -43,6 +38,7 @@ fn picked<'a>(flash: &'a [u8], ram: &'a [u8], address: u32, count: u32) -> &'a [
 }
 
 // The bytes of a range in a memory that starts at an address.
+#[tactic(auto, unfolding(memory::specs::Stores::part), using(memory::proofs::Laws::region_holds))]
 fn range_of(memory: &[u8], start: u32, address: u32, count: u32) -> &[u8]
     requires { within start (length memory.now) address count ≡ true }
     ensures { result.now ≡ part memory.now (address - start) count }

@@ -1,6 +1,6 @@
 // The session: how it starts, and its rate.
 ghost use Rattle.std.specs.Prelude.{◌≡◌};
-ghost use Rattle.tm32.specs.Device.{at_rate, in_state, restart as restart_is, session_of, start as start_is};
+ghost use Rattle.tm32.specs.Device.{at_rate, in_state, restart as restart_is, start as start_is};
 ghost use Rattle.tm32_asks.specs.Rates.{bits_per_second};
 
 use crate::{Session, State};
@@ -20,7 +20,11 @@ impl Session {
     pub fn start(link: Link) -> Session
         ensures { result ≡ start_is link }
     {
-        of(State::Waiting, link, START_RATE)
+        Session {
+            state: State::Waiting,
+            link,
+            rate: START_RATE,
+        }
     }
 
     // What becomes of a session that is restarted on a link.
@@ -30,40 +34,28 @@ impl Session {
         Session::start(link)
     }
 
-    // The session's rate in bits per second, and 0 where its code names none.
+    // The session's rate in bits per second, and 0 where its code names none. Document 01 names this form: a constant table, and a
+    // code that is tested before it is an index.
+    #[tactic(auto, unfolding(tm32_asks::specs::Rates::bits_per_second, tm32_asks::specs::Rates::rates, tm32_asks::specs::Numbers::from_one_to))]
     pub fn bits_per_second(self) -> u32
         ensures { result ≡ bits_per_second self.rate }
     {
-        let code = self.rate as usize;
-        if code < 0x01 {
-            return 0;
+        match self.rate {
+            0x01..=0x10 => RATES[self.rate as usize - 1],
+            _ => 0,
         }
-        if 0x10 < code {
-            return 0;
-        }
-        RATES[code - 1]
     }
 
     // The session at another rate, and in another state.
     pub(crate) fn at_rate(self, rate: u8) -> Session
         ensures { result ≡ at_rate self rate }
     {
-        let state = self.state;
-        let link = self.link;
-        of(state, link, rate)
+        Session { rate, ..self }
     }
 
     pub(crate) fn in_state(self, state: State) -> Session
         ensures { result ≡ in_state self state }
     {
-        let link = self.link;
-        of(state, link, self.rate)
+        Session { state, ..self }
     }
-}
-
-// A session, put together. No other function of this crate does that.
-fn of(state: State, link: Link, rate: u8) -> Session
-    ensures { result ≡ session_of state link rate }
-{
-    Session { state, link, rate }
 }

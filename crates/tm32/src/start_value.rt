@@ -6,10 +6,9 @@ use crate::Settings;
 
 impl Settings {
     // The same with another start value.
-    pub fn starting_from(mut self, start: u16) -> Settings
+    pub fn starting_from(self, start: u16) -> Settings
         ensures { result ≡ with_start self start }
     {
-        self.start = start;
-        self
+        Settings { start, ..self }
     }
 }

@@ -5,9 +5,11 @@ ghost use Rattle.tm32_asks.specs.Map.{flash_length, nvr_length, nvr_start, optio
 ghost use Rattle.tm32_asks.specs.Options.{option_bytes};
 ghost use Rattle.tm32.specs.Work.{wiped, wipes as wipes_is};
 
-use crate::{erase, read_options};
+use crate::erase;
+use crate::read_options::option_bytes;
 use tm32_asks::{OPTIONS_PLACE, PAGE_COUNT, rdp_on};
 
+#[tactic(auto, using(memory::proofs::Laws::stored))]
 pub(crate) fn work(flash: &mut [u8], nvr: &mut [u8], options: &[u8])
     requires flash_sized { length flash.old ≡ flash_length }
     requires nvr_sized { length nvr.old ≡ nvr_length }
@@ -15,8 +17,8 @@ pub(crate) fn work(flash: &mut [u8], nvr: &mut [u8], options: &[u8])
     ensures { (flash.new ≡ wiped (option_bytes nvr.old) options.now page_count flash.old)
         × (nvr.new ≡ replaced nvr.old (options_start - nvr_start) options.now) }
 {
-    wipe(read_options::work(nvr), options, flash);
-    memory::store(nvr, OPTIONS_PLACE, options);
+    wipe(option_bytes(nvr), options, flash);
+    memory::store(nvr, OPTIONS_PLACE, options).unwrap();
 }
 
 // The wipe, page by page.
@@ -24,21 +26,17 @@ fn wipe(old: &[u8], new: &[u8], flash: &mut [u8])
     requires { length flash.old ≡ flash_length }
     ensures { flash.new ≡ wiped old.now new.now page_count flash.old }
 {
-    let mut page: u32 = 0;
-    while page < PAGE_COUNT {
+    for page in 0..PAGE_COUNT {
         if wipes(old, new, page) {
             erase::work(flash, page, 1);
         }
-        page += 1;
     }
 }
 
 // Whether new options over old ones wipe a page: where read protection goes from on to off, each page alike.
+#[tactic(auto, unfolding(crate::specs::Work::wipes))]
 fn wipes(old: &[u8], new: &[u8], page: u32) -> bool
     ensures { result ≡ wipes_is old.now new.now page }
 {
-    if !rdp_on(old) {
-        return false;
-    }
-    !rdp_on(new)
+    rdp_on(old) && !rdp_on(new)
 }

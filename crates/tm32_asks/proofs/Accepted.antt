@@ -1,15 +1,16 @@
 -- What is known of a request that the checks let through: its range lies in its region, and its data has the length that it says.
 use Prim.Native.Nat.{ℕ, ◌+◌, ◌≤◌}
-use mathlib.Core.Bool.{true, false, not, and-eq-true_iff}
+use mathlib.Core.Bool.{true, false}
 use mathlib.Core.List.{List, ◌∷◌}
 use mathlib.Core.Path.{◌≡◌, sym, subst, ◌∙◌}
-use borrow.Author.Tests.{eqb-true, leb-true, ltb-false, not-false, not-true}
-use lib.Dec.{eqb, leb, ltb}
+use native.Mathlib.Omega.{arith}
+use lib.Dec.{eqb, ltb}
 use lib.ListN.{length, drop, get_or, length-drop}
+use Rattle.std.proofs.lemmas.Bool.Decides.{nat_tests}
 use Rattle.frame.specs.Frame.{data_of, reading}
 use Rattle.memory.specs.Pages.{pages, some_page}
 use Rattle.memory.proofs.Choices.{of_both, of_test}
-use Rattle.tm32_asks.specs.Checks.{Check, checks, checks_of, flash_pages, is_length, most_bytes, none_fails, protections, read_checks, write_checks}
+use Rattle.tm32_asks.specs.Checks.{Check, checks, checks_of, flash_pages, most_bytes, none_fails, protections, read_checks, write_checks}
 use Rattle.tm32_asks.specs.Map.{in_read_region, in_user_region, options_length, page_count}
 use Rattle.tm32_asks.specs.Numbers.{from_one_to}
 use Rattle.tm32_asks.specs.Options.{under_wrp}
@@ -24,14 +25,7 @@ use Rattle.tm32_asks.specs.declared.Request.TheVariants.{Pps, Get, Read, Write, 
 -- the first of some checks that pass, and the others
 pub next : (one : Check) (rest : List Check) → none_fails (one ∷ rest) ≡ true → (one.fails ≡ false) × (none_fails rest ≡ true)
 unfolding none_fails
-next one rest pass =
-    let both = (and-eq-true_iff (not one.fails) (none_fails rest)).0 pass in
-    (not-true one.fails both.0, both.1)
-
--- a length that Read and Write take is no more than the most
-most : (count : ℕ) → is_length count ≡ true → count ≤ most_bytes
-unfolding from_one_to
-most count right = leb-true _ _ ((and-eq-true_iff (leb 1 count) _).0 right).1
+next one rest pass = (grind (arith, nat_tests), grind (arith, nat_tests))
 
 -- What is known of a Read.
 pub record ReadAccepted (address count : ℕ) : Type 0 where
@@ -51,36 +45,21 @@ pub record EraseAccepted (options : List ℕ) (first count : ℕ) : Type 0 where
 
 module _ (link : Link) (options : List ℕ) where
   pub read_accepted : (address count : ℕ) → none_fails (checks_of link options (Read address count)) ≡ true → ReadAccepted address count
-  unfolding checks
-  read_accepted address count pass =
-      let counted = next _ _ pass in
-      let inside = next _ _ counted.1 in
-      record { short = most count (not-false _ counted.0); inside = not-false _ inside.0 }
+  unfolding checks none_fails from_one_to
+  read_accepted address count pass = record { short = grind (arith, nat_tests); inside = grind (arith, nat_tests) }
 
   pub write_accepted : (flag address count : ℕ) → none_fails (checks_of link options (Write flag address count)) ≡ true → WriteAccepted options address count
-  unfolding checks protections write_checks
-  write_accepted flag address count pass =
-      let counted = next _ _ pass in
-      let inside = next _ _ counted.1 in
-      let unprotected = next _ _ inside.1 in
-      record { short = most count (not-false _ counted.0); inside = not-false _ inside.0; unprotected = unprotected.0 }
+  unfolding checks protections write_checks none_fails from_one_to
+  write_accepted flag address count pass = record { short = grind (arith, nat_tests); inside = grind (arith, nat_tests); unprotected = grind (arith, nat_tests) }
 
   -- of a Memory CRC only that its range lies in a region: it may be as long as that
   pub crc_accepted : (address count wanted : ℕ) → none_fails (checks_of link options (MemoryCrc address count wanted)) ≡ true → in_user_region address count ≡ true
-  unfolding checks
-  crc_accepted address count wanted pass =
-      let counted = next _ _ pass in
-      not-false _ (next _ _ counted.1).0
+  unfolding checks none_fails
+  crc_accepted address count wanted pass = grind (arith, nat_tests)
 
   pub erase_accepted : (first count : ℕ) → none_fails (checks_of link options (Erase first count)) ≡ true → EraseAccepted options first count
-  unfolding checks protections read_checks write_checks
-  erase_accepted first count pass =
-      let counted = next _ _ pass in
-      let inside = next _ _ counted.1 in
-      let readable = next _ _ inside.1 in
-      let freed = next _ _ readable.1 in
-      let unprotected = next _ _ freed.1 in
-      record { inside = ltb-false _ _ inside.0; unprotected = unprotected.0 }
+  unfolding checks protections read_checks write_checks none_fails
+  erase_accepted first count pass = record { inside = grind (arith, nat_tests); unprotected = grind (arith, nat_tests) }
 
 -- ---- the shape of data
 
@@ -106,13 +85,13 @@ Shaped payload Misshapen = Unit {0}
 -- data that must be just so long
 exactly_shaped : (count : ℕ) (payload : List ℕ) (request : Request) → (length payload ≡ count → Shaped payload request) → Shaped payload (exactly count payload request)
 unfolding exactly Shaped
-exactly_shaped count payload request so = of_test (Shaped payload) (eqb (length payload) count) (λ is. so (eqb-true _ _ is)) (λ other. tt)
+exactly_shaped count payload request so = of_test (Shaped payload) (eqb (length payload) count) (λ is. so (grind (arith, nat_tests))) (λ other. tt)
 
 write_shaped : (payload : List ℕ) → Shaped payload (write_in payload)
 unfolding Shaped write_in
 write_shaped payload =
     of_test (Shaped payload) (ltb (length payload) 5) (λ short. tt)
-    (λ long. of_both (Shaped payload) (ltb 1 (get_or payload 0 0)) tt (record { headed = ltb-false _ _ long; counted = length-drop 5 payload }))
+    (λ long. of_both (Shaped payload) (ltb 1 (get_or payload 0 0)) tt (record { headed = grind (arith, nat_tests); counted = length-drop 5 payload }))
 
 command_shaped : (command : ℕ) (payload : List ℕ) → Shaped payload (request_of command payload)
 unfolding Shaped request_of

@@ -1,19 +1,22 @@
 -- Lists of checks, one behind the other: the first list decides where one of its checks fails, and else the second.
 use Prim.Native.Nat.{ℕ}
-use mathlib.Core.Bool.{Bool, true, false, cond, not, ◌&&◌, and-eq-true_iff}
+use mathlib.Core.Bool.{Bool, true, not, ◌&&◌}
 use mathlib.Core.List.{List, [], ◌∷◌, ◌++◌, map-append}
 use mathlib.Core.Path.{◌≡◌, refl, sym, subst, ◌∙◌}
+use native.Mathlib.Omega.{arith}
 use lib.Dec.{eqb}
-use borrow.Author.Tests.{eqb-false, not-true}
-use Rattle.frame.specs.Frame.{reading}
-use Rattle.frame.specs.declared.Reading.TheVariants.{Spoiled}
+use Rattle.std.proofs.lemmas.Bool.Decides.{nat_tests}
+use Rattle.std.specs.Prelude.{Ok, Err}
+use Rattle.frame.specs.Frame.{reading, spoiled}
+use Rattle.memory.specs.declared.PageRun.{PageRun}
 use Rattle.tm32_asks.specs.Checks.{Check, checks, checks_of, none_fails, numbers_of, protections, read_checks, verdict, write_checks}
 use Rattle.tm32_asks.specs.Request.{reading_result, request_in}
-use Rattle.tm32_asks.specs.Results.{pcrop_protected, read_protected, work_done, write_protected, wrong_address, wrong_length, wrong_link, wrong_page_count, wrong_rate, wrong_shape}
+use Rattle.tm32_asks.specs.Results.{number_of, pcrop_protected, read_protected, work_done, write_protected, wrong_address, wrong_length, wrong_link, wrong_page_count, wrong_rate, wrong_shape}
+use Rattle.tm32_asks.specs.declared.results.Complaint.{Complaint}
 use Rattle.tm32_asks.specs.declared.Link.{Link}
-use Rattle.memory.specs.declared.PageRun.{PageRun}
 use Rattle.tm32_asks.specs.declared.Request.{Request}
 use Rattle.tm32_asks.specs.declared.Request.TheVariants.{Pps, Get, Read, Write, MemoryCrc, Erase, Go, WriteOptions, ReadOptions, HeartBeat, Misshapen}
+use Rattle.tm32_asks.proofs.OneOutcome.{same_answer}
 
 -- Whether some numbers all pass a test.
 unfoldable pub pass_all : (ℕ → Bool) → List ℕ → Bool
@@ -28,44 +31,33 @@ is_not other number = not (eqb number other)
 abbrev pub Unnumbered : ℕ → List Check → Type 0
 Unnumbered number list = pass_all (is_not number) (numbers_of list) ≡ true
 
--- one check ahead of a list: where it fails it decides, and else the list does
-ahead_first : (fails : Bool) (number : ℕ) {passed whole part : ℕ} → (cond fails number part ≡ passed → ⊥) → ((part ≡ passed → ⊥) → whole ≡ part)
-    → cond fails number whole ≡ cond fails number part
-ahead_first true number failed behind = refl
-ahead_first false number failed behind = behind failed
-
-ahead_second : (fails : Bool) (number : ℕ) {passed whole part second : ℕ} → eqb number passed ≡ false → cond fails number part ≡ passed → (part ≡ passed → whole ≡ second)
-    → cond fails number whole ≡ second
-ahead_second true number {passed} other passes behind = absurd (eqb-false number passed other passes)
-ahead_second false number other passes behind = behind passes
-
-ahead_passes : (fails : Bool) (number : ℕ) {passed part : ℕ} {behind : Bool} → eqb number passed ≡ false → cond fails number part ≡ passed → (part ≡ passed → behind ≡ true)
-    → not fails && behind ≡ true
-ahead_passes true number {passed} other passes rest = absurd (eqb-false number passed other passes)
-ahead_passes false number other passes rest = rest passes
-
 module _ (passed : ℕ) (second : List Check) where
   -- a check of the first list that fails decides
   pub first_list_decides : (first : List Check) → (verdict passed first ≡ passed → ⊥) → verdict passed (first ++ second) ≡ verdict passed first
   unfolding verdict
   first_list_decides [] failed = absurd (failed refl)
-  first_list_decides (one ∷ rest) failed = ahead_first one.fails one.number failed (first_list_decides rest)
+  first_list_decides (one ∷ rest) failed = grind (arith, nat_tests, first_list_decides rest)
 
   -- where none fails, the second list decides
   pub second_list_decides : (first : List Check) → Unnumbered passed first → verdict passed first ≡ passed → verdict passed (first ++ second) ≡ verdict passed second
   unfolding verdict pass_all is_not numbers_of
   second_list_decides [] others passes = refl
-  second_list_decides (one ∷ rest) others passes =
-      let both = (and-eq-true_iff (not (eqb one.number passed)) _).0 others in
-      ahead_second one.fails one.number (not-true _ both.0) passes (second_list_decides rest both.1)
+  second_list_decides (one ∷ rest) others passes = grind (arith, nat_tests, second_list_decides rest)
 
--- so code that tries the first list, and the second where none of the first fails, gives the number of both
-module _ (passed : ℕ) (first second : List Check) (tried : ℕ) (tries : tried ≡ verdict passed first) where
-  pub first_gives : (tried ≡ passed → ⊥) → tried ≡ verdict passed (first ++ second)
-  first_gives failed = tries ∙ sym (first_list_decides passed second first (λ same. failed (tries ∙ same)))
+-- what is complained of is never told by the number that says that the work is done
+complaint_told : (complaint : Complaint) → number_of (Err complaint) ≡ work_done → ⊥
+complaint_told complaint told =
+    let same = same_answer (Err complaint) (Ok tt) told in
+    cc
 
-  pub second_gives : Unnumbered passed first → tried ≡ passed → (number : ℕ) → number ≡ verdict passed second → number ≡ verdict passed (first ++ second)
-  second_gives others passes number gives = gives ∙ sym (second_list_decides passed second first others (sym tries ∙ passes))
+-- so what the first list complains of is the answer of both, and where it complains of nothing the second list's answer is
+module _ (first second : List Check) where
+  pub first_complains : (complaint : Complaint) → number_of (Err complaint) ≡ verdict work_done first → number_of (Err complaint) ≡ verdict work_done (first ++ second)
+  first_complains complaint told =
+      told ∙ sym (first_list_decides work_done second first (λ same. complaint_told complaint (told ∙ same)))
+
+  pub second_answers : Unnumbered work_done first → work_done ≡ verdict work_done first → verdict work_done second ≡ verdict work_done (first ++ second)
+  second_answers others told = sym (second_list_decides work_done second first others (sym told))
 
 -- What holds of the numbers that each command's checks have, before protection and of protection, holds of those of every request. PPS, Read and Memory CRC, Write, Erase, Go, what has no
 -- shape, and the commands that have no check.
@@ -121,7 +113,7 @@ unfolding pass_all is_not numbers_of read_checks
 read_others options run = refl
 
 -- a message whose frame is spoiled is refused with the number of that
-pub spoiled_refused : (link : Link) (options : List ℕ) (start : ℕ) (message : List ℕ) (place : ℕ) → reading start message ≡ Spoiled place
+pub spoiled_refused : (link : Link) (options : List ℕ) (start : ℕ) (message : List ℕ) (place : ℕ) → reading start message ≡ spoiled place
     → verdict work_done (checks_of link options (request_in start message)) ≡ reading_result (reading start message)
 unfolding request_in reading_result checks protections verdict
 spoiled_refused link options start message place is = rw is
@@ -130,6 +122,4 @@ spoiled_refused link options start message place is = rw is
 pub none_fails_where_passed : (passed : ℕ) (list : List Check) → Unnumbered passed list → verdict passed list ≡ passed → none_fails list ≡ true
 unfolding verdict pass_all is_not numbers_of none_fails
 none_fails_where_passed passed [] others passes = refl
-none_fails_where_passed passed (one ∷ rest) others passes =
-    let both = (and-eq-true_iff (not (eqb one.number passed)) _).0 others in
-    ahead_passes one.fails one.number (not-true _ both.0) passes (none_fails_where_passed passed rest both.1)
+none_fails_where_passed passed (one ∷ rest) others passes = grind (arith, nat_tests, none_fails_where_passed passed rest)

@@ -3,6 +3,8 @@ use Rattle.std.specs.Prelude.{ℕ, ◌+◌, ◌*◌, ◌-◌, Bool, true, not, �
 use Rattle.memory.specs.Pages.{covers}
 use Rattle.memory.specs.Stores.{part}
 use Rattle.tm32_asks.specs.Map.{nvr_start, options_start, options_length, page_count}
+use Rattle.tm32_asks.specs.declared.options.PageProtection.{PageProtection}
+use Rattle.tm32_asks.specs.declared.options.PageProtection.TheVariants.{Pcrop, Wrp}
 
 -- The option bytes of an NVR.
 unfoldable pub option_bytes : List ℕ → List ℕ
@@ -31,6 +33,11 @@ under_pcrop options = in_either options 3
 -- Whether a page is under WRP: two ranges, in halfwords 7 and 8, and 9 and 10.
 abbrev pub under_wrp : List ℕ → ℕ → Bool
 under_wrp options = in_either options 7
+
+-- Whether a page is under the one of the two that is named.
+abbrev pub under : PageProtection → List ℕ → ℕ → Bool
+under Pcrop = under_pcrop
+under Wrp = under_wrp
 
 -- That the first option bytes protect all that the second do: read protection, and each page under PCROP or WRP.
 pub record ProtectAll (strict loose : List ℕ) : Type 0 where

@@ -1,8 +1,8 @@
 -- Document 01, "A message and its reply" and "The ten commands": what a Talking device reads in a message.
-use Rattle.std.specs.Prelude.{ℕ, ◌-◌, cond, List, eqb, ltb, length, get_or}
+use Rattle.std.specs.Prelude.{ℕ, ◌-◌, cond, List, eqb, ltb, length, get_or, Result, Ok, Err}
 use Rattle.frame.specs.Frame.{data_of, reading, word_at}
-use Rattle.frame.specs.declared.Reading.{Reading}
-use Rattle.frame.specs.declared.Reading.TheVariants.{Sound, Spoiled}
+use Rattle.frame.specs.declared.Sound.{Sound}
+use Rattle.frame.specs.declared.Spoiled.{Spoiled}
 use Rattle.tm32_asks.specs.Map.{options_length}
 use Rattle.tm32_asks.specs.Numbers.{long_at}
 use Rattle.tm32_asks.specs.Results.{work_done, wrong_shape}
@@ -36,9 +36,9 @@ request_of command payload =
     Misshapen)))))))))
 
 -- What the reader of frames answers, in 01's numbers: a spoiled frame is of the wrong shape, wherever it is spoiled; a sound one passes, and its command and data are looked at.
-unfoldable pub reading_result : Reading → ℕ
-reading_result (Sound command count) = work_done
-reading_result (Spoiled place) = wrong_shape
+unfoldable pub reading_result : Result Sound Spoiled → ℕ
+reading_result (Ok sound) = work_done
+reading_result (Err spoiled) = wrong_shape
 
 -- What a message asks for, where a CRC starts from a value: where its frame passes, what its second byte, the command, asks for with the data.
 unfoldable pub request_in : ℕ → List ℕ → Request

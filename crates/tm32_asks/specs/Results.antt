@@ -1,5 +1,8 @@
 -- Document 01, "A message and its reply" and "When nothing is done": the results, each the byte that stands in the command's place of a reply. 000 has one more, 0x93, which this device never gives.
-use Rattle.std.specs.Prelude.{ℕ}
+use Rattle.std.specs.Prelude.{ℕ, Result, Ok, Err, ⊤, ◌≡◌, ◌≢◌, MatchResult}
+use Rattle.tm32_asks.specs.declared.results.Complaint.{Complaint}
+use Rattle.tm32_asks.specs.declared.results.NoComplaint.{NoComplaint}
+use Rattle.tm32_asks.specs.declared.results.Complaint.TheVariants.{NoHandshake, WrongShape, WrongLink, WrongRate, WrongLength, WrongPageCount, WrongAddress, ReadProtected, PcropProtected, WriteProtected, WrongCrc, ReadbackDiffers}
 
 -- Work done.
 abbrev pub work_done : ℕ
@@ -52,3 +55,25 @@ wrong_crc = 0xF4
 -- What was written does not read back as it was sent. The work is done all the same.
 abbrev pub readback_differs : ℕ
 readback_differs = 0x92
+
+-- The number by which a reply says what came of a message: that the work is done, or what is wrong.
+abbrev pub number_of : Result ⊤ Complaint → ℕ
+number_of (Ok done) = work_done
+number_of (Err NoHandshake) = no_handshake
+number_of (Err WrongShape) = wrong_shape
+number_of (Err WrongLink) = wrong_link
+number_of (Err WrongRate) = wrong_rate
+number_of (Err WrongLength) = wrong_length
+number_of (Err WrongPageCount) = wrong_page_count
+number_of (Err WrongAddress) = wrong_address
+number_of (Err ReadProtected) = read_protected
+number_of (Err PcropProtected) = pcrop_protected
+number_of (Err WriteProtected) = write_protected
+number_of (Err WrongCrc) = wrong_crc
+number_of (Err ReadbackDiffers) = readback_differs
+
+-- The other way round: what is complained of by a number, or that it is a number by which nothing is.
+abbrev pub Tells : ℕ → Result Complaint NoComplaint → Type 0
+Tells number told =
+    MatchResult told (λ complaint. number_of (Err complaint) ≡ number)
+    (λ none. (none.0 ≡ number) × ((complaint : Complaint) → number_of (Err complaint) ≢ number))

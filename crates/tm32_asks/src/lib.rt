@@ -15,10 +15,10 @@ pub use map::{
 };
 pub use options::rdp_on;
 pub use requests::{bytes_to_write, request_in};
-pub use results::{WORK_DONE, WRONG_ADDRESS};
+pub use results::{Complaint, NoComplaint, number_of};
 
 // What the host is connected by.
-#[derive(Clone, Copy)]
+#[derive(Clone, Copy, Debug, PartialEq, Eq)]
 pub enum Link {
     Uart,
     Spi,
@@ -26,8 +26,9 @@ pub enum Link {
 }
 
 // What a Talking device reads in a message: one of the ten commands with its fields, or none. The bytes of a write and of the
-// option bytes stay in the message, beside this.
-#[derive(Clone, Copy)]
+// option bytes stay in the message, beside this. The fields are numbers, as the theorems name them: an address and a count apart, and
+// the readback flag as it was sent.
+#[derive(Clone, Copy, Debug, PartialEq, Eq)]
 pub enum Request {
     Pps { code: u8 },
     Get,
@@ -39,6 +40,6 @@ pub enum Request {
     WriteOptions,
     ReadOptions,
     HeartBeat,
-    // None of the ten: what 01 calls a failure of shape.
+    // None of the ten: what 01 calls a failure of shape. It stays a request, since the theorems speak of every request, of this too.
     Misshapen,
 }

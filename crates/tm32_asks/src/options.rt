@@ -2,7 +2,7 @@
 // in the definitions, so nothing is asked of the slice.
 ghost use Rattle.std.specs.Prelude.{◌≡◌, ◌≤◌, ◌<◌};
 ghost use Rattle.memory.specs.Pages.{some_page};
-ghost use Rattle.tm32_asks.specs.Options.{in_either, in_range, low_byte, rdp_on, under_pcrop, under_wrp};
+ghost use Rattle.tm32_asks.specs.Options.{in_range, low_byte, rdp_on, under};
 
 use crate::map::PAGE_COUNT;
 use crate::requests::byte_at;
@@ -11,44 +11,35 @@ use memory::PageRun;
 // The low byte of halfword 1 that means no read protection.
 const RDP_OFF: u8 = 0xAA;
 
-// Of each two ranges, the halfword in which the first starts. Its end stands in the next halfword, and the second range behind it.
-const PCROP: usize = 3;
+// What protects single pages, by two ranges each: the number is that of the halfword in which the first starts. A range's end stands in
+// the next halfword, and the second range behind the first.
+#[derive(Clone, Copy, Debug, PartialEq, Eq)]
+pub(crate) enum PageProtection {
+    Pcrop = 3,
+    Wrp = 7,
+}
 
-const WRP: usize = 7;
+impl PageProtection {
+    // Whether some page of a run is in one of the two ranges.
+    #[tactic(auto, using(crate::proofs::Ranges::some_in_either))]
+    pub(crate) fn meets(self, options: &[u8], pages: PageRun) -> bool
+        ensures { result ≡ some_page (under self options.now) pages }
+    {
+        let first = self as usize;
+        range_meets(options, first, pages) || range_meets(options, first + 2, pages)
+    }
+}
 
 // Whether read protection is on.
+#[tactic(auto, unfolding(crate::specs::Options::rdp_on))]
 pub fn rdp_on(options: &[u8]) -> bool
     ensures { result ≡ rdp_on options.now }
 {
     low_byte(options, 1) != RDP_OFF
 }
 
-// Whether some page of a run is under PCROP.
-pub(crate) fn pcrop_meets(options: &[u8], pages: PageRun) -> bool
-    ensures { result ≡ some_page (under_pcrop options.now) pages }
-{
-    either_meets(options, PCROP, pages)
-}
-
-// Whether some page of a run is under WRP.
-pub(crate) fn wrp_meets(options: &[u8], pages: PageRun) -> bool
-    ensures { result ≡ some_page (under_wrp options.now) pages }
-{
-    either_meets(options, WRP, pages)
-}
-
-// Whether some page of a run is in one of the two ranges.
-fn either_meets(options: &[u8], halfword: usize, pages: PageRun) -> bool
-    requires { (1 ≤ halfword) × (halfword < 9) }
-    ensures { result ≡ some_page (in_either options.now halfword) pages }
-{
-    if range_meets(options, halfword, pages) {
-        return true;
-    }
-    range_meets(options, halfword + 2, pages)
-}
-
 // Whether some page of a run is in the range that starts in a halfword.
+#[tactic(auto, using(memory::proofs::Laws::meets_is))]
 fn range_meets(options: &[u8], halfword: usize, pages: PageRun) -> bool
     requires { (1 ≤ halfword) × (halfword < 11) }
     ensures { result ≡ some_page (in_range options.now halfword) pages }

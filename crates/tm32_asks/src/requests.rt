@@ -1,29 +1,28 @@
 // What a Talking device reads in a message: the frame's command as one of the ten requests, and the fields in its data.
-ghost use Rattle.std.specs.Prelude.{◌≡◌, ◌+◌, ◌*◌, ◌≤◌, ◌<◌, drop, get_or, length};
+ghost use Rattle.std.specs.Prelude.{◌≡◌, ◌≤◌, ◌<◌, drop, get_or, length};
 ghost use Rattle.frame.specs.Frame.{longest, word_at};
 ghost use Rattle.tm32_asks.specs.Numbers.{long_at};
 ghost use Rattle.tm32_asks.specs.Request.{exactly as exactly_is, request_in, request_of, write_in};
 
 use crate::Request;
-use frame::Reading;
-
-// How many option bytes there are.
-const OPTIONS_LENGTH: usize = 22;
+use crate::map::OPTIONS_LENGTH;
 
 // How much of a write's data is not bytes to write: the readback flag and the address.
 const WRITE_HEAD: usize = 5;
 
 // What a message asks for, where a CRC starts from a value. A message that is no sound frame asks for nothing.
+#[tactic(auto, unfolding(crate::specs::Request::request_in, crate::specs::Request::reading_result))]
 pub fn request_in(start: u16, message: &[u8]) -> Request
     ensures { result ≡ request_in start message.now }
 {
     match frame::read(start, message) {
-        Reading::Sound { second, length: _ } => request_of(second, frame::data_of(message)),
-        Reading::Spoiled { place: _ } => Request::Misshapen,
+        Ok(sound) => request_of(sound.second, frame::data_of(message)),
+        Err(_) => Request::Misshapen,
     }
 }
 
-// The ten commands, and the data that each takes. A frame's second byte is the command.
+// The ten commands, and the data that each takes. A frame's second byte is the command. Document 01 names the form: one arm for each
+// command over a local, and the unknown codes as ranges.
 #[tactic(auto, unfolding(crate::specs::Request::request_of))]
 fn request_of(second: u8, payload: &[u8]) -> Request
     requires { length payload.now ≤ longest }
@@ -54,13 +53,8 @@ fn pps_in(payload: &[u8]) -> Request
     ensures { result ≡ exactly_is 1 payload.now
         (Request.Pps (get_or payload.now 0 0)) }
 {
-    exactly(
-        1,
-        payload,
-        Request::Pps {
-            code: byte_at(payload, 0),
-        },
-    )
+    let code = byte_at(payload, 0);
+    exactly(1, payload, Request::Pps { code })
 }
 
 fn read_in(payload: &[u8]) -> Request
@@ -68,7 +62,7 @@ fn read_in(payload: &[u8]) -> Request
         (Request.Read (long_at payload.now 0) (word_at payload.now 4)) }
 {
     let address = long_at(payload, 0);
-    let count = frame::word_at(payload, 4) as u32;
+    let count = u32::from(frame::word_at(payload, 4));
     exactly(6, payload, Request::Read { address, count })
 }
 
@@ -94,8 +88,8 @@ fn erase_in(payload: &[u8]) -> Request
     ensures { result ≡ exactly_is 4 payload.now
         (Request.Erase (word_at payload.now 0) (word_at payload.now 2)) }
 {
-    let first = frame::word_at(payload, 0) as u32;
-    let count = frame::word_at(payload, 2) as u32;
+    let first = u32::from(frame::word_at(payload, 0));
+    let count = u32::from(frame::word_at(payload, 2));
     exactly(4, payload, Request::Erase { first, count })
 }
 
@@ -103,42 +97,36 @@ fn go_in(payload: &[u8]) -> Request
     ensures { result ≡ exactly_is 4 payload.now
         (Request.Go (long_at payload.now 0)) }
 {
-    exactly(
-        4,
-        payload,
-        Request::Go {
-            address: long_at(payload, 0),
-        },
-    )
+    let address = long_at(payload, 0);
+    exactly(4, payload, Request::Go { address })
 }
 
 // A request whose data must be just so long.
+#[tactic(auto, unfolding(crate::specs::Request::exactly))]
 fn exactly(count: usize, payload: &[u8], request: Request) -> Request
     ensures { result ≡ exactly_is count payload.now request }
 {
     if payload.len() == count {
-        return request;
+        request
+    } else {
+        Request::Misshapen
     }
-    Request::Misshapen
 }
 
 // Write: all data behind the flag and the address are bytes to write.
+#[tactic(auto, unfolding(crate::specs::Request::write_in))]
 fn write_in(payload: &[u8]) -> Request
     requires { length payload.now ≤ longest }
     ensures { result ≡ write_in payload.now }
 {
-    let length = payload.len();
-    if length < WRITE_HEAD {
-        return Request::Misshapen;
-    }
     let flag = byte_at(payload, 0);
-    if 1 < flag {
+    if payload.len() < WRITE_HEAD || 1 < flag {
         return Request::Misshapen;
     }
     Request::Write {
         flag,
         address: long_at(payload, 1),
-        count: (length - WRITE_HEAD) as u32,
+        count: bytes_to_write(payload).len() as u32,
     }
 }
 
@@ -146,36 +134,23 @@ fn write_in(payload: &[u8]) -> Request
 pub fn bytes_to_write(payload: &[u8]) -> &[u8]
     ensures { result.now ≡ drop 5 payload.now }
 {
-    if payload.len() < WRITE_HEAD {
-        return &payload[0..0];
-    }
-    &payload[WRITE_HEAD..]
+    payload.get(WRITE_HEAD..).unwrap_or(&[])
 }
 
 // The number in the four bytes from a place on.
+#[tactic(auto, unfolding(crate::specs::Numbers::long_at))]
 fn long_at(bytes: &[u8], place: usize) -> u32
     requires { place < 8 }
     ensures { result ≡ long_at bytes.now place }
 {
-    long(
-        frame::word_at(bytes, place),
-        frame::word_at(bytes, place + 2),
-    )
+    let low = frame::word_at(bytes, place);
+    let high = frame::word_at(bytes, place + 2);
+    u32::from(low) + 0x10000 * u32::from(high)
 }
 
 // The byte at a place, and 0 where there is none.
 pub(crate) fn byte_at(bytes: &[u8], place: usize) -> u8
     ensures { result ≡ get_or bytes.now place 0 }
 {
-    if place < bytes.len() {
-        return bytes[place];
-    }
-    0
-}
-
-// Two halves of 16 bits as a number of 32.
-fn long(low: u16, high: u16) -> u32
-    ensures { result ≡ low + 65536 * high }
-{
-    (low as u32) + 65536 * (high as u32)
+    bytes.get(place).copied().unwrap_or(0)
 }

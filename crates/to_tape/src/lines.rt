@@ -1,136 +1,103 @@
 // The lines of a text, each turned into a record.
-use crate::{Passed, Step, tell};
-use std::num::wrapping_add_u64;
-use stream::Sheet;
-use tape::MESSAGE;
-use text::Line;
+use crate::errors::Failure;
+use stream::{Consumer, FillError, Sheet};
+use tape::{Head, MESSAGE};
+use text::LineError;
 
-// The most that a head can say of a body.
-const LONGEST: usize = 65535;
-
-// The lines that end in the text.
-pub(crate) fn whole(
-    rt: &(impl Print + Eprint),
+// Makes a tape of a text: what the CRCs start from, the number of the line that comes next, the tape's records on a sheet, and the
+// buffers that a line's message is made in.
+#[derive(Drop)]
+pub(crate) struct Recorder<'a, P> {
     start: u16,
-    text: &[u8],
     number: u64,
-    scratch: &mut [u8],
-    message: &mut [u8],
-    paper: &mut [u8],
-) -> Passed {
-    let mut sheet = Sheet::empty();
-    let mut line = number;
-    let mut used = 0;
-    while used < text.len() {
-        let end = text::line_end(text, used);
-        if text.len() <= end {
-            return written(rt, sheet, paper, used, line);
+    sheet: Sheet<'a, P>,
+    scratch: &'a mut [u8],
+    message: &'a mut [u8],
+}
+
+impl<P: Print> Consumer for Recorder<'_, P> {
+    type Error = Failure;
+
+    // The lines that end in the text.
+    fn consume(&mut self, text: &[u8]) -> Result<usize, Failure> {
+        let mut used = 0;
+        // A while: where a line ends the crate text says, and nothing is left of a last one.
+        while used < text.len() {
+            let end = text::line_end(text, used);
+            if text.len() <= end {
+                break;
+            }
+            self.line(&text[used..end])?;
+            self.number = self.number.wrapping_add(1);
+            used = end + 1;
         }
-        match one(
-            rt,
+        self.sheet.written()?;
+        Ok(used)
+    }
+
+    // The last line, which the end of the text ends.
+    fn finish(&mut self, line: &[u8]) -> Result<(), Failure> {
+        self.line(line)?;
+        self.sheet.written()?;
+        Ok(())
+    }
+
+    fn refuse(&mut self, error: FillError) -> Failure {
+        match error {
+            FillError::Full => Failure::LongLine {
+                number: self.number,
+            },
+            FillError::Failed => Failure::Unreadable,
+        }
+    }
+}
+
+impl<'a, P: Print> Recorder<'a, P> {
+    pub(crate) fn new(
+        start: u16,
+        sheet: Sheet<'a, P>,
+        scratch: &'a mut [u8],
+        message: &'a mut [u8],
+    ) -> Self {
+        Recorder {
             start,
-            &text[used..end],
-            line,
+            number: 1,
             sheet,
             scratch,
             message,
-            paper,
-        ) {
-            Step::On { next } => {
-                sheet = next;
-            }
-            Step::Off => return Passed::Off,
         }
-        line = wrapping_add_u64(line, 1);
-        used = end + 1;
     }
-    written(rt, sheet, paper, used, line)
-}
 
-// The last line, which the end of the text ends.
-pub(crate) fn last(
-    rt: &(impl Print + Eprint),
-    start: u16,
-    line: &[u8],
-    number: u64,
-    scratch: &mut [u8],
-    message: &mut [u8],
-    paper: &mut [u8],
-) {
-    if let Step::On { next } = one(
-        rt,
-        start,
-        line,
-        number,
-        Sheet::empty(),
-        scratch,
-        message,
-        paper,
-    ) {
-        written(rt, next, paper, 0, number);
-    }
-}
-
-// One line: its message, if it has one, goes on the sheet as a record.
-fn one(
-    rt: &(impl Print + Eprint),
-    start: u16,
-    line: &[u8],
-    number: u64,
-    sheet: Sheet,
-    scratch: &mut [u8],
-    message: &mut [u8],
-    paper: &mut [u8],
-) -> Step {
-    match text::message_in(start, line, scratch, message) {
-        Line::Nothing => Step::On { next: sheet },
-        Line::Message { length } => record(rt, &message[..length], number, sheet, paper),
-        Line::NotHex { place } => {
-            tell::not_hex(rt, number, place);
-            Step::Off
+    // One line: its message, if it has one, goes on the sheet as a record.
+    fn line(&mut self, line: &[u8]) -> Result<(), Failure> {
+        let read = text::message_in(self.start, line, self.scratch, self.message);
+        match read {
+            Ok(None) => Ok(()),
+            Ok(Some(length)) => self.record(length),
+            Err(error) => Err(self.wrong(error)),
         }
-        Line::NoCommand => {
-            tell::line(rt, number, "no command behind the >");
-            Step::Off
+    }
+
+    // The message, of this length, as a record.
+    fn record(&mut self, length: usize) -> Result<(), Failure> {
+        let Ok(size) = u16::try_from(length) else {
+            return Err(self.wrong(LineError::TooLong));
+        };
+        let head = Head {
+            length: size,
+            kind: MESSAGE,
+        };
+        self.sheet.bytes(&head.to_bytes())?;
+        let message = &mut *self.message;
+        self.sheet.bytes(stream::first(message, length))?;
+        Ok(())
+    }
+
+    // Something about the line that comes next.
+    fn wrong(&self, error: LineError) -> Failure {
+        Failure::Line {
+            number: self.number,
+            error,
         }
-        Line::TooLong => too_long(rt, number),
-        Line::NoRoom => too_long(rt, number),
     }
-}
-
-fn record(
-    rt: &(impl Print + Eprint),
-    body: &[u8],
-    number: u64,
-    sheet: Sheet,
-    paper: &mut [u8],
-) -> Step {
-    if LONGEST < body.len() {
-        return too_long(rt, number);
-    }
-    let head = tape::head_of(body.len() as u16, MESSAGE);
-    Step::On {
-        next: sheet.bytes(rt, paper, &head).bytes(rt, paper, body),
-    }
-}
-
-fn too_long(rt: &impl Eprint, number: u64) -> Step {
-    tell::line(rt, number, "a message of more than 65,535 bytes");
-    Step::Off
-}
-
-// What was collected is written out. Where that fails the program ends.
-fn written(
-    rt: &(impl Print + Eprint),
-    sheet: Sheet,
-    paper: &[u8],
-    used: usize,
-    number: u64,
-) -> Passed {
-    let last = sheet.written(rt, paper);
-    if !last.failed {
-        return Passed::On { used, number };
-    }
-    tell::words(rt, "the tape cannot be written");
-    Passed::Off
 }

@@ -1,141 +1,177 @@
 // The records of a tape, a line each.
-use crate::{Passed, show, words};
-use frame::Reading;
-use stream::Sheet;
-use tape::{ERROR, Found, HEAD_LENGTH, MESSAGE, REPLY};
+use crate::errors::Failure;
+use crate::words;
+use frame::Sound;
+use std::fmt;
+use std::io::Write;
+use stream::{Consumer, FillError, Sheet};
+use tape::{ERROR, Found, HEAD_LENGTH, MESSAGE, REPLY, TapeError};
+use tm32_asks::{Complaint, number_of};
 
-// The records that stand whole on the tape.
-pub(crate) fn whole(
-    rt: &(impl Print + Eprint),
+// Makes text of a tape, on a sheet. The CRCs of its frames start from a value.
+#[derive(Drop)]
+pub(crate) struct Describer<'a, P> {
     start: u16,
-    tape: &[u8],
-    paper: &mut [u8],
-) -> Passed {
-    let mut sheet = Sheet::empty();
-    let mut used = 0;
-    while used < tape.len() {
-        match tape::record_in(&tape[used..]) {
-            Found::Whole { length, kind } => {
-                sheet = line(
-                    rt,
-                    start,
-                    sheet,
-                    paper,
-                    kind,
-                    tape::body_of(&tape[used..], length),
-                );
-                used += HEAD_LENGTH + length as usize;
-            }
-            _ => return written(rt, sheet, paper, used),
+    sheet: Sheet<'a, P>,
+}
+
+impl<'a, P: Print> Describer<'a, P> {
+    pub(crate) fn new(start: u16, sheet: Sheet<'a, P>) -> Self {
+        Describer { start, sheet }
+    }
+}
+
+impl<P: Print> Consumer for Describer<'_, P> {
+    type Error = Failure;
+
+    // The records that stand whole on the tape.
+    fn consume(&mut self, tape: &[u8]) -> Result<usize, Failure> {
+        let start = self.start;
+        let mut used = 0;
+        // A while: how far the next record goes only its head says.
+        while used < tape.len() {
+            let rest = &tape[used..];
+            let Found::Whole(head) = tape::record_in(rest) else {
+                break;
+            };
+            let record = Record {
+                start,
+                kind: head.kind,
+                body: tape::body_of(rest, head.length),
+            };
+            writeln!(self.sheet, "{record}")?;
+            used += HEAD_LENGTH + usize::from(head.length);
+        }
+        self.sheet.written()?;
+        Ok(used)
+    }
+
+    // What is left where the tape ends.
+    fn finish(&mut self, rest: &[u8]) -> Result<(), Failure> {
+        if !rest.is_empty() {
+            writeln!(
+                self.sheet,
+                "? this tape is cut short: its last record is not whole"
+            )?;
+            self.sheet.written()?;
+        }
+        Ok(())
+    }
+
+    fn refuse(&mut self, error: FillError) -> Failure {
+        match error {
+            FillError::Full => Failure::LongRecord,
+            FillError::Failed => Failure::Unreadable,
         }
     }
-    written(rt, sheet, paper, used)
 }
 
-// What is left where the tape ends.
-pub(crate) fn end(rt: &impl Print, rest: &[u8], paper: &mut [u8]) {
-    if 0 < rest.len() {
-        let sheet = Sheet::empty().bytes(
-            rt,
-            paper,
-            b"? this tape is cut short: its last record is not whole\n",
-        );
-        sheet.written(rt, paper);
-    }
-}
-
-// What was collected is written out. Where that fails the program ends.
-fn written(rt: &(impl Print + Eprint), sheet: Sheet, paper: &[u8], used: usize) -> Passed {
-    let last = sheet.written(rt, paper);
-    if !last.failed {
-        return Passed::On { used };
-    }
-    let _ = rt.eprintln("the text cannot be written");
-    Passed::Off
-}
-
-// A record's line.
-fn line(
-    rt: &impl Print,
+// A record, as it is told: its bytes, and what they say.
+#[derive(Clone, Copy)]
+struct Record<'b> {
     start: u16,
-    sheet: Sheet,
-    paper: &mut [u8],
     kind: u16,
-    body: &[u8],
-) -> Sheet {
-    let full = record(rt, start, sheet, paper, kind, body);
-    full.byte(rt, paper, b'\n')
+    body: &'b [u8],
 }
 
-fn record(
-    rt: &impl Print,
-    start: u16,
-    sheet: Sheet,
-    paper: &mut [u8],
-    kind: u16,
-    body: &[u8],
-) -> Sheet {
-    match kind {
-        MESSAGE => message(rt, start, sheet, paper, body),
-        REPLY => reply(rt, start, sheet, paper, body),
-        ERROR => error(rt, sheet, paper, body),
-        _ => other(rt, sheet, paper, kind, body.len()),
+impl fmt::Display for Record<'_> {
+    fn fmt<W: fmt::Write>(&self, f: &mut fmt::Formatter<W>) -> fmt::Result {
+        let body = self.body;
+        match self.kind {
+            MESSAGE => write!(f, "> {}{}", Hex(body), message(self.start, body)),
+            REPLY => write!(f, "< {}{}", Hex(body), Reply::read(self.start, body)),
+            ERROR => write!(f, "! {}", Wrong(body)),
+            kind => write!(f, "? kind 0x{kind:04X}, {} bytes", body.len()),
+        }
     }
 }
 
-// A message: its bytes, and what it asks for.
-fn message(rt: &impl Print, start: u16, sheet: Sheet, paper: &mut [u8], body: &[u8]) -> Sheet {
-    let shown = show::bytes(rt, sheet.bytes(rt, paper, b"> "), paper, body);
-    if is_single(body, 0x7F) {
-        return shown.bytes(rt, paper, b"handshake");
-    }
-    match frame::read(start, body) {
-        Reading::Sound { second, length: _ } => words::command(rt, shown, paper, second),
-        Reading::Spoiled { place: _ } => shown.bytes(rt, paper, b"no sound frame"),
+// Bytes as two digits each, with a space behind.
+#[derive(Clone, Copy)]
+struct Hex<'b>(&'b [u8]);
+
+impl fmt::Display for Hex<'_> {
+    fn fmt<W: fmt::Write>(&self, f: &mut fmt::Formatter<W>) -> fmt::Result {
+        for byte in self.0 {
+            write!(f, "{byte:02X} ")?;
+        }
+        Ok(())
     }
 }
 
-// A reply: its bytes, and what it says.
-fn reply(rt: &impl Print, start: u16, sheet: Sheet, paper: &mut [u8], body: &[u8]) -> Sheet {
-    let shown = show::bytes(rt, sheet.bytes(rt, paper, b"< "), paper, body);
-    if body.len() == 0 {
-        return shown.bytes(rt, paper, b"no reply");
-    }
-    if is_single(body, 0x79) {
-        return shown.bytes(rt, paper, b"handshake answered");
-    }
-    match frame::read(start, body) {
-        Reading::Sound { second, length: _ } => result(rt, shown, paper, second),
-        Reading::Spoiled { place: _ } => shown.bytes(rt, paper, b"no sound frame"),
+// What a message asks for.
+fn message(start: u16, body: &[u8]) -> &'static str {
+    match body {
+        [0x7F] => "handshake",
+        _ => match frame::read(start, body) {
+            Ok(Sound { second, .. }) => words::command(second),
+            Err(_) => "no sound frame",
+        },
     }
 }
 
-// A result: its number, and what it means.
-fn result(rt: &impl Print, sheet: Sheet, paper: &mut [u8], code: u8) -> Sheet {
-    let named = show::byte(rt, sheet.bytes(rt, paper, b"0x"), paper, code).bytes(rt, paper, b": ");
-    words::result(rt, named, paper, code)
+// What a reply says.
+#[derive(Clone, Copy)]
+enum Reply {
+    Empty,
+    Handshake,
+    Result(u8),
+    Spoiled,
 }
 
-// The player's word that the tape is wrong.
-fn error(rt: &impl Print, sheet: Sheet, paper: &mut [u8], body: &[u8]) -> Sheet {
-    let marked = sheet.bytes(rt, paper, b"! ");
-    if body.len() == 1 {
-        return words::error(rt, marked, paper, body[0]);
+impl Reply {
+    fn read(start: u16, body: &[u8]) -> Self {
+        match body {
+            [] => Reply::Empty,
+            [0x79] => Reply::Handshake,
+            _ => match frame::read(start, body) {
+                Ok(Sound { second, .. }) => Reply::Result(second),
+                Err(_) => Reply::Spoiled,
+            },
+        }
     }
-    marked.bytes(rt, paper, b"an error without a number")
 }
 
-// A record that is none of these.
-fn other(rt: &impl Print, sheet: Sheet, paper: &mut [u8], kind: u16, length: usize) -> Sheet {
-    let named = show::word(rt, sheet.bytes(rt, paper, b"? kind 0x"), paper, kind);
-    let measured = show::number(rt, named.bytes(rt, paper, b", "), paper, length as u64);
-    measured.bytes(rt, paper, b" bytes")
-}
-
-// Whether a body is this one byte.
-fn is_single(body: &[u8], value: u8) -> bool {
-    if body.len() == 1 {
-        return body[0] == value;
+impl fmt::Display for Reply {
+    fn fmt<W: fmt::Write>(&self, f: &mut fmt::Formatter<W>) -> fmt::Result {
+        match *self {
+            Reply::Empty => f.write_str("no reply"),
+            Reply::Handshake => f.write_str("handshake answered"),
+            Reply::Result(number) => {
+                let words = Outcome(number);
+                write!(f, "0x{number:02X}: {words}")
+            }
+            Reply::Spoiled => f.write_str("no sound frame"),
+        }
     }
-    false
+}
+
+// What a result means. A tape may come from anywhere, with numbers that this chip does not give.
+#[derive(Clone, Copy)]
+struct Outcome(u8);
+
+impl fmt::Display for Outcome {
+    fn fmt<W: fmt::Write>(&self, f: &mut fmt::Formatter<W>) -> fmt::Result {
+        match Complaint::try_from(self.0) {
+            Ok(complaint) => write!(f, "{complaint}"),
+            Err(_) if self.0 == number_of(Ok(())) => f.write_str("work done"),
+            Err(_) => f.write_str("a result that this chip does not give"),
+        }
+    }
+}
+
+// The player's word that the tape is wrong: the body of its record.
+#[derive(Clone, Copy)]
+struct Wrong<'b>(&'b [u8]);
+
+impl fmt::Display for Wrong<'_> {
+    fn fmt<W: fmt::Write>(&self, f: &mut fmt::Formatter<W>) -> fmt::Result {
+        let [number] = self.0 else {
+            return f.write_str("an error without a number");
+        };
+        match TapeError::try_from(*number) {
+            Ok(error) => write!(f, "{error}"),
+            Err(_) => f.write_str("an error of a number that no tape gives"),
+        }
+    }
 }

@@ -4,8 +4,7 @@ use Rattle.tm32.specs.Device.{Device}
 use Rattle.tm32.specs.declared.Settings.{Settings}
 use Rattle.tape.specs.Play.{Playing, behind, play_tape, record_room, stopped}
 use Rattle.tape.specs.Script.{script_of}
-use Rattle.tape.specs.declared.Stop.{Stop}
-use Rattle.tape.specs.declared.Stop.TheVariants.{MoreTape, Room, End, Error, Refused}
+use Rattle.tape.specs.Stops.{Stop, MoreTape, Room, End, Error, Refused}
 
 -- How many messages a tape holds.
 abbrev pub message_count : Bool → List ℕ → ℕ

@@ -5,7 +5,7 @@ use Rattle.std.proofs.Common.{true≢false, sym, ap, ◌∙◌}
 use Rattle.tm32.specs.Device.{Device}
 use Rattle.tm32.specs.declared.Settings.{Settings}
 use Rattle.tape.specs.Play.{Playing, behind, play_tape}
-use Rattle.tape.specs.declared.Stop.TheVariants.{Room}
+use Rattle.tape.specs.Stops.{Room}
 use Rattle.tape.proofs.Ways.{goes_so, one_way}
 use Rattle.demands.specs.BenchTape.InPieces.{wants}
 use Rattle.demands.specs.BenchTape.Pieces.{goes_on, is_done}

@@ -10,8 +10,7 @@ use Rattle.tm32.specs.declared.Settings.{Settings}
 use Rattle.memory.proofs.Choices.{of_test}
 use Rattle.tape.specs.Play.{Playing, behind, closing, play_tape, record_room}
 use Rattle.tape.specs.Records.{head_length}
-use Rattle.tape.specs.declared.Stop.{Stop}
-use Rattle.tape.specs.declared.Stop.TheVariants.{MoreTape, Room, End, Error, Refused}
+use Rattle.tape.specs.Stops.{Stop, MoreTape, Room, End, Error, Refused}
 use Rattle.tape.proofs.Laws.{message_stands}
 use Rattle.tape.proofs.Longer.{body_longer, message_is, message_longer, over_longer, rest_longer}
 use Rattle.tape.proofs.Ways.{Goes, cramped, goes_so, onward, over, refused}

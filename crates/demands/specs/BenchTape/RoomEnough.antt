@@ -13,8 +13,7 @@ use Rattle.tm32.specs.declared.Settings.{Settings}
 use Rattle.tape.specs.Play.{Playing, closing, onward, play, play_tape, record_room, reply_length}
 use Rattle.tape.specs.Records.{head_length}
 use Rattle.tape.specs.Script.{script_of}
-use Rattle.tape.specs.declared.Stop.{Stop}
-use Rattle.tape.specs.declared.Stop.TheVariants.{MoreTape, Room, End, Error, Refused}
+use Rattle.tape.specs.Stops.{Stop, MoreTape, Room, End, Error, Refused}
 use Rattle.tape.proofs.Ways.{script_stops}
 use Rattle.demands.specs.BenchTape.InPieces.{is_room, message_count}
 use Rattle.demands.specs.Demand2.Besides.{reply_fits}

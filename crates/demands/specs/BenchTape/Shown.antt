@@ -7,8 +7,7 @@ use Rattle.tm32.specs.declared.Settings.{Settings}
 use Rattle.tape.specs.Play.{Playing, error_kind, reply_kind}
 use Rattle.tape.specs.Records.{record_of}
 use Rattle.tape.specs.Script.{Script, script_of}
-use Rattle.tape.specs.declared.Stop.{Stop}
-use Rattle.tape.specs.declared.Stop.TheVariants.{MoreTape, Room, End, Error, Refused}
+use Rattle.tape.specs.Stops.{Stop, MoreTape, Room, End, Error, Refused}
 
 -- Messages as events of a run: each is sent with room for any reply.
 unfoldable pub sent_all : List (List ℕ) → List Event

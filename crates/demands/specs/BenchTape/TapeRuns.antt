@@ -16,8 +16,7 @@ use Rattle.tm32.specs.declared.Settings.{Settings}
 use Rattle.tape.specs.Play.{Playing, closing, record_room, reply_kind}
 use Rattle.tape.specs.Records.{body_in, record_of}
 use Rattle.tape.specs.Script.{script}
-use Rattle.tape.specs.declared.Stop.{Stop}
-use Rattle.tape.specs.declared.Stop.TheVariants.{MoreTape, Room, End, Error, Refused}
+use Rattle.tape.specs.Stops.{Stop, MoreTape, Room, End, Error, Refused}
 use Rattle.tape.proofs.Laws.{next_message, next_over}
 use Rattle.tape.proofs.Ways.{Goes, closing_stop, cramped, onward, over, over_unrefused, refused}
 use Rattle.demands.specs.BenchTape.Shown.{Seen, closing_record, reply_records, seen, seen_of, sent_all, shown, shown_by}

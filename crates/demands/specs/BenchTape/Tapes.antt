@@ -17,8 +17,7 @@ use Rattle.tm32.specs.declared.State.TheVariants.{Waiting}
 use Rattle.tape.specs.Play.{closing, onward, play, play_tape}
 use Rattle.tape.specs.Records.{body_in, head_of, record_in, record_of}
 use Rattle.tape.specs.Script.{headed, next_of, script_from}
-use Rattle.tape.specs.declared.Stop.{Stop}
-use Rattle.tape.specs.declared.Stop.TheVariants.{End, Error, MoreTape}
+use Rattle.tape.specs.Stops.{Stop, End, Error, MoreTape}
 use Rattle.cases.specs.Cases.{blank_device, blank_flash, on_bench}
 use Rattle.cases.specs.Wire.{halfwords, heart_beat, hex, little, off, options}
 use Rattle.demands.specs.BenchTape.Shown.{Seen, seen, seen_of}

@@ -10,8 +10,7 @@ use Rattle.memory.proofs.Choices.{of_test}
 use Rattle.tape.specs.Play.{Playing, behind, play_tape, record_room}
 use Rattle.tape.specs.Records.{head_length}
 use Rattle.tape.specs.Script.{Script}
-use Rattle.tape.specs.declared.Stop.{Stop}
-use Rattle.tape.specs.declared.Stop.TheVariants.{Room}
+use Rattle.tape.specs.Stops.{Stop, Room}
 use Rattle.tape.proofs.Laws.{message_stands, next_message}
 use Rattle.tape.proofs.Longer.{message_is, message_longer, rest_longer}
 use Rattle.tape.proofs.Ways.{Goes, closing_stop, cramped, goes_so, onward, over, refused}

@@ -5,7 +5,7 @@ use Rattle.tm32.specs.After.{Told}
 use Rattle.tm32.specs.Run.{Event}
 use Rattle.tape.specs.Play.{Playing}
 use Rattle.tape.specs.Script.{script_of}
-use Rattle.tape.specs.declared.Stop.{Stop}
+use Rattle.tape.specs.Stops.{Stop}
 use Rattle.demands.specs.BenchTape.Shown.{closing_record, reply_records, sent_all}
 use Rattle.demands.specs.Demand3.TwoDevices.{AlikeButOptions, is_protection_refusal}
 

@@ -12,7 +12,7 @@ use Rattle.tm32_asks.specs.Numbers.{from_one_to}
 use Rattle.tm32.specs.Respond.{respond}
 use Rattle.tape.specs.Blocks.{keeping, rest_of}
 use Rattle.tape.specs.Play.{closing, onward, play, play_tape, played}
-use Rattle.tape.specs.Records.{body_in, head_of, record_in, record_of}
+use Rattle.tape.specs.Records.{body_in, head, head_of, record_in, record_of}
 use Rattle.tape.specs.Script.{headed, next_of, script_from}
 use Rattle.tape.specs.Starting.{starting}
 use Rattle.tape.specs.declared.Found.{Found}
@@ -44,8 +44,8 @@ links_of_the_example is = true≢false (ap (eqb 0x7F) is)
 is_nothing : Found → Bool
 is_nothing Nothing = true
 is_nothing HeadCut = false
-is_nothing (BodyCut size kind) = false
-is_nothing (Whole size kind) = false
+is_nothing (BodyCut head) = false
+is_nothing (Whole head) = false
 
 pub part_of_a_head_is_nothing : record_in (0x01 ∷ []) ≢ Nothing
 unfolding record_in is_nothing
@@ -55,15 +55,15 @@ part_of_a_head_is_nothing is = false≢true (ap is_nothing is)
 is_whole : Found → Bool
 is_whole Nothing = false
 is_whole HeadCut = false
-is_whole (BodyCut size kind) = false
-is_whole (Whole size kind) = true
+is_whole (BodyCut head) = false
+is_whole (Whole head) = true
 
-pub record_high_byte_first : record_in (hex 5 0x010001007F) ≢ BodyCut 0x0100 0x0100
+pub record_high_byte_first : record_in (hex 5 0x010001007F) ≢ BodyCut (head 0x0100 0x0100)
 unfolding hex word_at record_in is_whole
 record_high_byte_first is = true≢false (ap is_whole is)
 
 -- record_in: a body of which the last byte is missing taken as whole
-pub body_one_byte_short : record_in (hex 5 0x020001007F) ≢ Whole 2 1
+pub body_one_byte_short : record_in (hex 5 0x020001007F) ≢ Whole (head 2 1)
 unfolding hex word_at record_in is_whole
 body_one_byte_short is = false≢true (ap is_whole is)
 

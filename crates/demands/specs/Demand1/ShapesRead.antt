@@ -1,6 +1,6 @@
 -- Document 01, "A message and its reply" and "The ten commands": lemmas for demand 1. A message fails in one of the seven ways exactly if the request that is read in it has no shape. One walk through
 -- the tests, in order, shows both.
-use Rattle.std.specs.Prelude.{ℕ, ◌+◌, ◌-◌, ◌<◌, Bool, false, cond, List, [], ◌≡◌, ltb, take}
+use Rattle.std.specs.Prelude.{ℕ, ◌+◌, ◌-◌, ◌<◌, Bool, false, cond, List, [], ◌≡◌, ltb, take, Result}
 use Rattle.std.proofs.Math.Bool.{true, not}
 use Rattle.std.proofs.lemmas.Bool.{false≢true}
 use Rattle.std.proofs.Common.{true≢false, sym, ◌∙◌, arith, length-drop, length-take}
@@ -11,7 +11,8 @@ use Rattle.std.proofs.Math.ListN.{get_or, length}
 use Rattle.std.proofs.Math.Seq.{get_or-drop, get_or-take}
 use Rattle.frame.specs.Crc.{crc}
 use Rattle.frame.specs.Frame.{data_of, reading, word_at}
-use Rattle.frame.specs.declared.Reading.{Reading}
+use Rattle.frame.specs.declared.Sound.{Sound}
+use Rattle.frame.specs.declared.Spoiled.{Spoiled}
 use Rattle.tm32_asks.specs.Checks.{check, checks, none_fails, numbers_of, protections, read_checks, write_checks}
 use Rattle.tm32.specs.Device.{Device}
 use Rattle.tm32_asks.specs.Request.{exactly, reading_result, request_in, request_of, write_in}
@@ -120,7 +121,7 @@ module _ (start : ℕ) (device : Device) (message : List ℕ) where
   agrees : Agrees start device message (request_in start message)
   unfolding request_in reading_result reading
   agrees =
-      let P : Reading → Type 0 = λ reads. Agrees start device message (cond (eqb (reading_result reads) work_done) (request_of (get_or message 1 0) (data_of message)) Misshapen) in
+      let P : Result Sound Spoiled → Type 0 = λ reads. Agrees start device message (cond (eqb (reading_result reads) work_done) (request_of (get_or message 1 0) (data_of message)) Misshapen) in
       let place = length message - 2 in
       of_test P (ltb (length message) 6) (λ short. neither (too_short short))
       (λ long. of_test P (not (eqb (get_or message 0 0) 0x2D)) (λ other. neither (other_head (not-true _ other)))

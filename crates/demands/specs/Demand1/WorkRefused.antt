@@ -9,13 +9,12 @@ use Rattle.frame.specs.Frame.{data_of, frame}
 use Rattle.memory.specs.Stores.{same}
 use Rattle.memory.specs.declared.Programmed.{Programmed}
 use Rattle.memory.proofs.Choices.{of_both}
-use Rattle.tm32.specs.After.{Telling, lay, replied}
+use Rattle.tm32.specs.After.{Refused, Telling, lay, replied}
 use Rattle.tm32.specs.Device.{Device, Memory, bytes_at}
 use Rattle.tm32_asks.specs.Request.{request_in}
 use Rattle.tm32.specs.Respond.{Answered, greet, hello_back, refuse, reply_to, respond}
 use Rattle.tm32_asks.specs.Results.{readback_differs, work_done}
 use Rattle.tm32.specs.Work.{programmed_result, readback, work, written}
-use Rattle.tm32.specs.declared.Answer.TheVariants.{Refused}
 use Rattle.tm32_asks.specs.declared.Request.{Request}
 use Rattle.tm32_asks.specs.declared.Request.TheVariants.{Pps, Get, Read, Write, MemoryCrc, Erase, Go, WriteOptions, ReadOptions, HeartBeat, Misshapen}
 use Rattle.tm32.specs.declared.Settings.{Settings}

@@ -3,17 +3,20 @@
 use Prim.Native.Nat.{◌-◌}
 use mathlib.Core.Path.{◌≡◌}
 use lib.ListN.{length}
-use Rattle.tm32.specs.Device.{memory_of}
+use Rattle.tm32.specs.Device.{device_of}
+use Rattle.tm32.specs.Promises.{SameSlices, held}
+use Rattle.tape.specs.Play.{played}
 use Rattle.tape.specs.Promises.{Stands, from}
 use Rattle.tape.proofs.player.play.Given as goal
 
 abbrev pub invariant-loop-next : goal.invariant-loop-next
-invariant-loop-next l = (from l.settings l.ends l.tape l.place (memory_of l.flash l.ram l.nvr) l.buffer ≡ from l.settings l.ends l.tape l.initial.place (memory_of l.initial.flash l.initial.ram l.initial.nvr) l.initial.buffer)
-    × (Stands l.place l.tape l.buffer)
-    × (length l.flash ≡ length l.initial.flash)
-    × (length l.ram ≡ length l.initial.ram)
-    × (length l.nvr ≡ length l.initial.nvr)
-    × (length l.buffer ≡ length l.initial.buffer)
+invariant-loop-next l =
+    record {
+      same : from l.player.settings l.player.ends l.player.tape.now l.place (held l.memory) l.buffer
+          ≡ played l.player.settings (device_of l.fn.session (held l.initial.memory)) l.player.ends l.player.tape.now l.initial.buffer;
+      stands : Stands l.place l.player.tape.now l.buffer;
+      slices : SameSlices l.initial.memory l.memory;
+    }
 
 abbrev pub decreases-loop-next : goal.decreases-loop-next
-decreases-loop-next l = length l.tape - l.place.used
+decreases-loop-next l = length l.player.tape.now - l.place.used

@@ -1,41 +1,28 @@
--- `text::lines::line_end` meets its contract: what its loop keeps says so at the end.
-use Prim.Native.Nat.{ℕ, suc, ◌+◌, ◌≤◌, ◌<◌}
-use mathlib.Core.List.{List}
-use mathlib.Core.Path.{◌≡◌, refl, sym, ◌∙◌}
-use native.Mathlib.Nat.{add-zero}
-use native.Mathlib.Numerals.{add-one}
-use native.Mathlib.Omega.{arith}
-use borrow.Author.Tests.{eq-eqb, ne_eqb}
-use lib.ListN.{length, get_or, drop_of_length-le}
-use lib.Seq.{drop-cons}
-use Rattle.text.specs.Lines.{newline, until_newline, line_end}
+-- `text::lines::line_end` meets its contract: the first newline behind the place is where the definition stops to count.
+use Rattle.std.proofs.Common.{◌≡◌, ℕ, List, drop, length, eqb, refl, arith, rules, tests, unwrap_or, not, Bool}
+use Rattle.std.specs.List.{position, position_or_len}
+use Rattle.std.proofs.lemmas.Bool.Decides.{nat_tests}
+use Rattle.std.proofs.lemmas.Grind.{common_steps}
+use Rattle.std.proofs.lemmas.Iterator.{YieldsList-from_slice}
+use Rattle.std.proofs.lemmas.Iterator.Search.{position_from_yields_List}
+use Rattle.std.proofs.lemmas.List.Recursion.{is_position_or_len}
+use Rattle.std.proofs.lemmas.List.Sums.{prefix_len-le-length}
+use Rattle.text.specs.Lines.{newline, until_newline}
 use Rattle.text.proofs.lines.line_end.Goals as goal
 
--- the line goes on, ends here, or ends with the text
-goes_on : (text : List ℕ) (end : ℕ) → end < length text → (get_or text end 0 ≡ newline → ⊥) → line_end text (end + 1) ≡ line_end text end
+abbrev is_newline : ℕ → Bool
+is_newline c = eqb c newline
+
+first : (rest : List ℕ) → until_newline rest ≡ unwrap_or (position is_newline rest) (length rest)
 unfolding until_newline
-goes_on text end inside other =
-    let sum : (count : ℕ) → suc end + count ≡ end + suc count = λ count. omega arith in
-    rw (add-one end, drop-cons text end 0 inside, ne_eqb _ _ other) (sum _)
-
-ends_here : (text : List ℕ) (end : ℕ) → end < length text → get_or text end 0 ≡ newline → end ≡ line_end text end
-unfolding until_newline
-ends_here text end inside is = rw (drop-cons text end 0 inside, eq-eqb _ _ is) (sym (add-zero end))
-
-ends_there : (text : List ℕ) (end : ℕ) → length text ≤ end → end ≡ line_end text end
-unfolding until_newline
-ends_there text end outside = rw (drop_of_length-le text outside) (sym (add-zero end))
-
-pub loop-end-init : goal.loop-end-init
-loop-end-init c = refl
-
-pub returns-then-text-end-eq10 : goal.returns-then-text-end-eq10
-returns-then-text-end-eq10 c =
-    ends_here _ _ c.loop-end-test.true c.if-text-end-eq10.true ∙ c.loop-end.invariant
-
-pub loop-end-preserved : goal.loop-end-preserved
-loop-end-preserved c =
-    goes_on _ _ c.loop-end-test.true c.if-text-end-eq10.false ∙ c.loop-end.invariant
+first rest =
+    let stops : until_newline rest ≡ position_or_len is_newline rest = is_position_or_len until_newline is_newline refl (λ c rest. grind arith) rest in
+    let within = prefix_len-le-length (λ c. not (is_newline c)) rest in
+    grind (arith, nat_tests)
 
 pub returns : goal.returns
-returns c = ends_there _ _ c.loop-end-test.false ∙ c.loop-end.invariant
+returns c =
+    let rest = c.unwrap_or-rest.result.now in
+    let behind : rest ≡ drop c.args.from c.args.text.now = grind (arith, common_steps) in
+    let found = position_from_yields_List is_newline _ _ c.position-length.result c.position-length.ensures.ran (YieldsList-from_slice rest cc) (λ x b q k. search (rules, tests)) in
+    cc (first rest)

@@ -6,7 +6,7 @@ use native.Mathlib.Omega.{arith}
 use lib.ListN.{length, set}
 use Rattle.frame.specs.Frame.{laid}
 use Rattle.tm32.specs.Promises.{turn_of}
-use Rattle.tm32.specs.declared.Answer.TheVariants.{Reply}
+use Rattle.std.specs.Prelude.{Ok}
 use Rattle.tm32.specs.declared.Session.{Session}
 use Rattle.tm32.proofs.device.greet.Goals as goal
 
@@ -18,6 +18,6 @@ first_byte byte (first ∷ rest) room = refl
 pub returns : goal.returns
 returns c =
     record {
-      handed = ap (λ (session : Session). turn_of session (Reply 1)) c.in_state.ensures;
+      handed = ap (λ (session : Session). turn_of session (Ok 1)) c.in_state.ensures;
       over = first_byte _ c.args.buffer.now (omega arith);
     }

@@ -1,28 +1,14 @@
--- `tm32_asks::requests::request_in` meets its contract: what the reader answers picks the definition's case. The data of a sound frame is as short as `request_of` asks.
-use Prim.Native.Nat.{ℕ}
-use mathlib.Core.List.{List}
-use mathlib.Core.Path.{◌≡◌, sym, ap, ◌∙◌}
+-- `tm32_asks::requests::request_in` meets its contract: a sound frame's second byte is the one that stands there, and its data is as short as `request_of` asks.
+use mathlib.Core.Path.{sym, ap}
 use native.Mathlib.Omega.{arith}
 use lib.ListN.{length}
-use Rattle.frame.specs.Frame.{data_of, reading}
-use Rattle.frame.specs.declared.Reading.TheVariants.{Sound, Spoiled}
 use Rattle.frame.proofs.Laws.{length_data, read_second, short_data}
-use Rattle.tm32_asks.specs.Request.{reading_result, request_in, request_of}
-use Rattle.tm32_asks.specs.declared.Request.TheVariants.{Misshapen}
+use Rattle.tm32_asks.specs.Request.{reading_result, request_in}
 use Rattle.tm32_asks.proofs.requests.request_in.Goals as goal
-
--- what the message asks for, by what the reader answers
-sound_asks : (start : ℕ) (bytes : List ℕ) (second size : ℕ) → reading start bytes ≡ Sound second size → request_of second (data_of bytes) ≡ request_in start bytes
-unfolding request_in reading_result
-sound_asks start bytes second size is = rw (is, read_second start bytes second size is)
-
-spoiled_asks : (start : ℕ) (bytes : List ℕ) (place : ℕ) → reading start bytes ≡ Spoiled place → Misshapen ≡ request_in start bytes
-unfolding request_in reading_result
-spoiled_asks start bytes place is = rw is
 
 pub request_of-requires : goal.request_of-requires
 request_of-requires c =
-    let sound = sym c.in-Sound.ensures in
+    let sound = sym c.in-Ok.ensures in
     omega (
       arith,
       ap length c.data_of.ensures,
@@ -30,8 +16,9 @@ request_of-requires c =
       short_data c.args.start c.args.message.now _ _ sound (λ i. (c.type_inv.message i).fits),
     )
 
-pub returns-in-Sound : goal.returns-in-Sound
-returns-in-Sound c = c.request_of.ensures ∙ ap (request_of _) c.data_of.ensures ∙ sound_asks c.args.start c.args.message.now _ _ (sym c.in-Sound.ensures)
-
-pub returns-in-Spoiled : goal.returns-in-Spoiled
-returns-in-Spoiled c = spoiled_asks c.args.start c.args.message.now _ (sym c.in-Spoiled.ensures)
+pub returns-in-Ok : goal.returns-in-Ok
+unfolding request_in reading_result
+returns-in-Ok c =
+    let sound = sym c.in-Ok.ensures in
+    let second = read_second c.args.start c.args.message.now _ _ sound in
+    simp (c.request_of.ensures, c.data_of.ensures, second, sound)

@@ -1,9 +1,0 @@
--- `frame_cases::show::bytes` reads only within the slice, and ends at its end.
-use Rattle.std.proofs.Common.{◌-◌, ◌≤◌, length}
-use Rattle.frame_cases.proofs.show.bytes.Given as goal
-
-abbrev pub invariant-loop-i : goal.invariant-loop-i
-invariant-loop-i g l = l.i ≤ length l.list
-
-abbrev pub decreases-loop-i : goal.decreases-loop-i
-decreases-loop-i g l = length l.list - l.i

@@ -1,0 +1,13 @@
+// The lent memory, once its lengths are known to be those of the map.
+ghost use Rattle.std.specs.Prelude.{◌≡◌, length};
+ghost use Rattle.tm32_asks.specs.Map.{flash_length, nvr_length, ram_length};
+
+#[derive(Drop)]
+pub(crate) struct MappedMemory<'a> {
+    pub flash: &'a mut [u8],
+    pub ram: &'a mut [u8],
+    pub nvr: &'a mut [u8],
+    ghost flash_sized: { length flash.now ≡ flash_length },
+    ghost ram_sized: { length ram.now ≡ ram_length },
+    ghost nvr_sized: { length nvr.now ≡ nvr_length },
+}

@@ -1,6 +1,0 @@
--- `tm32_asks::requests::memory_crc_in` meets its contract: the fields are the definition's.
-use mathlib.Core.Path.{◌∙◌}
-use Rattle.tm32_asks.proofs.requests.memory_crc_in.Goals as goal
-
-pub returns : goal.returns
-returns c = c.exactly.ensures ∙ simp (c.long_at-address.ensures, c.long_at-count.ensures, c.word_at-crc.ensures)

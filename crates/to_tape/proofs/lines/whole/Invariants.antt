@@ -1,6 +1,0 @@
--- `to_tape::lines::whole` ends: each turn leaves a line fewer.
-use Rattle.std.proofs.Common.{◌-◌, length}
-use Rattle.to_tape.proofs.lines.whole.Given as goal
-
-abbrev pub decreases-loop-used : goal.decreases-loop-used
-decreases-loop-used g l = length l.text - l.used
