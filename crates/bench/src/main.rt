@@ -7,6 +7,7 @@ mod shell;
 
 use tm32::{FLASH_LENGTH, LentMemory, NVR_LENGTH, RAM_LENGTH, Settings};
 
+// The text tools begin so, too; one function for the three would need a closure for what stands in the middle, and be no plainer.
 fn main(rt: HostRuntime) {
     let fresh = tape::fresh_settings();
     let told = arguments::start(&rt, fresh.start, &mut [0; 8], &mut [0; 8]);

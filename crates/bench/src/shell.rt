@@ -41,7 +41,8 @@ pub(crate) fn run(
     Ok(())
 }
 
-// Keeps what was not played, and reads on behind it: how many bytes are held then, and whether the input has ended behind them.
+// Keeps what was not played, and reads on behind it: how many bytes are held then, and whether the input has ended behind them. Both,
+// and no Option: what is held is still to be played where the input has ended.
 fn read_on(
     rt: &impl Input,
     block: &mut [u8],

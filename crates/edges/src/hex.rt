@@ -11,7 +11,7 @@ pub(crate) fn bytes_in<'r>(text: &[u8], room: &'r mut [u8]) -> Option<&'r [u8]> 
 }
 
 // One word more, behind so many bytes: a byte of two digits, and behind it how many times it stands there. The answer is how many
-// bytes there are then.
+// bytes there are then: a count beside the room, since nothing is allocated.
 fn with_word(count: usize, word: &[u8], room: &mut [u8]) -> Option<usize> {
     let [high, low, times @ ..] = word else {
         return None;

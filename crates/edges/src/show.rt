@@ -23,7 +23,7 @@ impl fmt::Display for Runs<'_> {
     }
 }
 
-// Bytes of one value.
+// Bytes of one value. The frames' cases print bytes by themselves: what the two programs could share are these six lines.
 #[derive(Clone, Copy)]
 struct Run<'a>(&'a [u8]);
 
@@ -65,6 +65,7 @@ impl fmt::Display for SessionLine {
     }
 }
 
+// Where a link is printed these words are wanted, and nowhere else: so no Display of the crate below.
 fn link_words(link: Link) -> &'static str {
     match link {
         Link::Uart => "UART",

@@ -15,6 +15,10 @@ sheet_of place failed = record { place = place; failed = failed }
 abbrev pub filled : {P : Type 0} → code.Sheet P → Sheet
 filled sheet = sheet_of sheet.place (is_err sheet.outcome)
 
+-- The bytes of its paper.
+abbrev pub on_paper : {P : Type 0} → code.Sheet P → List ℕ
+on_paper sheet = sheet.paper.now
+
 -- Nothing is collected, and nothing has failed.
 abbrev pub empty_sheet : Sheet
 empty_sheet = sheet_of 0 false
@@ -62,6 +66,10 @@ pub record WritesOut (sheet after : Sheet) : Type 0 where
 -- A failure stays the one that it was.
 abbrev pub Lasts : {E : Type 0} → Result Unit E → Result Unit E → Type 0
 Lasts before after = IsErr before → after ≡ before
+
+-- A sheet goes on as the same one: on the same paper, and with the first failure.
+abbrev pub GoesOn : {P : Type 0} → code.Sheet P → code.Sheet P → Type 0
+GoesOn before after = (after.paper.ghost_name ≡ before.paper.ghost_name) × Lasts before.outcome after.outcome
 
 pub record MakesRoom (size : ℕ) (sheet after : Sheet) : Type 0 where
   pub taken : Bool

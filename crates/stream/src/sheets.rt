@@ -1,7 +1,7 @@
 // The sheet that standard output is collected on. Where its paper is full it is written out, and where that fails nothing more
 // is.
 ghost use Rattle.std.specs.Prelude.{◌≡◌, is_ok, length, not, take};
-ghost use Rattle.stream.specs.Sheets.{Adds, AddsAll, Lasts, MakesRoom, WritesOut, empty_sheet, filled, sheet_of};
+ghost use Rattle.stream.specs.Sheets.{Adds, AddsAll, GoesOn, MakesRoom, WritesOut, empty_sheet, filled, on_paper, sheet_of};
 
 use crate::first;
 use std::io;
@@ -20,7 +20,7 @@ pub struct Sheet<'a, P> {
 impl<'a, P: Print> Sheet<'a, P> {
     pub fn empty(to: &'a P, paper: &'a mut [u8]) -> Self
         ensures empty { filled result ≡ empty_sheet }
-        ensures as_it_was { result.paper.now ≡ paper.old }
+        ensures as_it_was { on_paper result ≡ paper.old }
         ensures same_paper { result.paper.ghost_name ≡ paper.entry.ghost_name }
     {
         Sheet {
@@ -31,12 +31,11 @@ impl<'a, P: Print> Sheet<'a, P> {
         }
     }
 
-    // Some bytes more. Where it has failed by then, that is told.
+    // Some bytes more. Where it has failed by then, that is told. Byte by byte: between any two the sheet may be written out.
     pub fn bytes(&mut self, values: &[u8]) -> io::Result<()>
-        ensures adds { AddsAll (filled self.old) self.old.paper.now values.now (filled self.new) self.new.paper.now }
-        ensures lasts { Lasts self.old.outcome self.new.outcome }
+        ensures adds { AddsAll (filled self.old) (on_paper self.old) values.now (filled self.new) (on_paper self.new) }
         ensures tells { result ≡ self.new.outcome }
-        ensures same_paper { self.new.paper.ghost_name ≡ self.old.paper.ghost_name }
+        ensures goes_on { GoesOn self.old self.new }
     {
         for value in values {
             self.byte(*value);
@@ -46,9 +45,8 @@ impl<'a, P: Print> Sheet<'a, P> {
 
     // One byte more.
     pub fn byte(&mut self, value: u8)
-        ensures adds { Adds (filled self.old) self.old.paper.now value (filled self.new) self.new.paper.now }
-        ensures lasts { Lasts self.old.outcome self.new.outcome }
-        ensures same_paper { self.new.paper.ghost_name ≡ self.old.paper.ghost_name }
+        ensures adds { Adds (filled self.old) (on_paper self.old) value (filled self.new) (on_paper self.new) }
+        ensures goes_on { GoesOn self.old self.new }
     {
         self.make_room();
         let place = self.place;
@@ -62,10 +60,9 @@ impl<'a, P: Print> Sheet<'a, P> {
     // A full sheet is written out. Where that fails, the sheet keeps it.
     #[tactic(auto, using(crate::proofs::Laws::roomy, crate::proofs::Laws::made))]
     fn make_room(&mut self)
-        ensures makes { MakesRoom (length self.old.paper.now) (filled self.old) (filled self.new) }
-        ensures lasts { Lasts self.old.outcome self.new.outcome }
-        ensures as_it_was { self.new.paper.now ≡ self.old.paper.now }
-        ensures same_paper { self.new.paper.ghost_name ≡ self.old.paper.ghost_name }
+        ensures makes { MakesRoom (length (on_paper self.old)) (filled self.old) (filled self.new) }
+        ensures as_it_was { on_paper self.new ≡ on_paper self.old }
+        ensures goes_on { GoesOn self.old self.new }
     {
         if self.paper.len() <= self.place {
             let _ = self.written();
@@ -76,10 +73,9 @@ impl<'a, P: Print> Sheet<'a, P> {
     #[tactic(auto, using(crate::proofs::Laws::stays))]
     pub fn written(&mut self) -> io::Result<()>
         ensures writes { WritesOut (filled self.old) (filled self.new) }
-        ensures lasts { Lasts self.old.outcome self.new.outcome }
         ensures tells { result ≡ self.new.outcome }
-        ensures as_it_was { self.new.paper.now ≡ self.old.paper.now }
-        ensures same_paper { self.new.paper.ghost_name ≡ self.old.paper.ghost_name }
+        ensures as_it_was { on_paper self.new ≡ on_paper self.old }
+        ensures goes_on { GoesOn self.old self.new }
     {
         self.outcome?;
         let to = self.to;
@@ -92,7 +88,7 @@ impl<'a, P: Print> Sheet<'a, P> {
     fn empty_by(&mut self, answer: io::Result<()>)
         ensures empties { filled self.new ≡ sheet_of 0 (not (is_ok answer)) }
         ensures tells { self.new.outcome ≡ answer }
-        ensures as_it_was { self.new.paper.now ≡ self.old.paper.now }
+        ensures as_it_was { on_paper self.new ≡ on_paper self.old }
         ensures same_paper { self.new.paper.ghost_name ≡ self.old.paper.ghost_name }
     {
         self.place = 0;
@@ -101,7 +97,7 @@ impl<'a, P: Print> Sheet<'a, P> {
 
     // What is on it.
     fn collected(&self) -> &[u8]
-        ensures { result.now ≡ take self.now.place self.now.paper.now }
+        ensures { result.now ≡ take self.now.place (on_paper self.now) }
     {
         first(self.paper, self.place)
     }

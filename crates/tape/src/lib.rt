@@ -77,7 +77,7 @@ pub struct Played {
 }
 
 impl TapeError {
-    // 01's number for it, 1 to 3.
+    // 01's number for it, 1 to 3. By name, and not by From: a caller says which number it means.
     pub fn number(self) -> u8
         ensures { result ≡ error_number self }
     {

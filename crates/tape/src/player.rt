@@ -13,7 +13,7 @@ use crate::script::next_in;
 use crate::{Head, Played, Stop, TapeError};
 use tm32::{LentMemory, REPLY_ROOM, Session, Settings};
 
-// The kinds of a reply and of an error.
+// The kinds of a reply and of an error: numbers, as that of a message is.
 pub const REPLY: u16 = 2;
 
 pub const ERROR: u16 = 0x00FF;
@@ -32,7 +32,8 @@ struct Player<'a> {
     ends: bool,
 }
 
-// Where the player stands: the session, and how many bytes of the tape are used and of the buffer written.
+// Where the player stands: the session, and how many bytes of the tape are used and of the buffer written. Counts beside lent slices:
+// nothing is allocated, and the definitions count.
 #[derive(Clone, Copy)]
 struct Place {
     session: Session,

@@ -7,7 +7,8 @@ ghost use Rattle.tape.specs.Stops.{stop_of};
 use crate::records::record_in;
 use crate::{Found, Head, Stop, TapeError};
 
-// The kind of a message, and the most that its body may have. A kind is a number, and no enum: a record may have any.
+// The kind of a message, and the most that its body may have. A number, as the other kinds are: a tape may hold any of 16 bits, and
+// what it holds is told as it stands. A kind is a number, and no enum: a record may have any.
 pub const MESSAGE: u16 = 1;
 
 const MOST_BODY: u16 = 2048;

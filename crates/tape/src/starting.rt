@@ -5,6 +5,7 @@ ghost use Rattle.tm32.specs.Promises.{SameSlices, held};
 ghost use Rattle.tape.specs.Starting.{started_by, starting};
 
 use tm32::{FLASH_LENGTH, LentMemory, Link, NVR_LENGTH, RAM_LENGTH, Refusal, Session, Settings};
+use tm32_asks::OPTIONS_PLACE;
 
 // An erased byte of the flash.
 const BLANK: u8 = 0xFF;
@@ -14,9 +15,6 @@ const OPTIONS: [u8; 22] = [
     0xAA, 0x00, 0x00, 0x00, 0xFF, 0x00, 0x00, 0x00, 0xFF, 0x00, 0x00, 0x00, 0xFF, 0x00, 0x00, 0x00,
     0xFF, 0x00, 0x00, 0x00, 0x00, 0x00,
 ];
-
-// Where in the NVR they stand.
-const OPTIONS_PLACE: usize = 0x800;
 
 // Makes lent memory that of a fresh device, and starts a session. Memory of another length is refused, and none of it is changed.
 #[tactic(auto, unfolding(crate::specs::Starting::starting, tm32::specs::After::call_checks, tm32_asks::specs::Checks::verdict))]
@@ -34,7 +32,7 @@ pub fn fresh(memory: &mut LentMemory) -> Result<Session, Refusal>
     Ok(Session::start(Link::Uart))
 }
 
-// Whether memory has its length.
+// Whether memory has its length. One function for it and for a failed check of a request would be no plainer: each has words of its own.
 fn check(length: usize, right: u32, refusal: Refusal) -> Result<(), Refusal>
     ensures { MatchResult result (λ _. length ≡ right) (λ error. (length ≢ right) × (error ≡ refusal)) }
 {

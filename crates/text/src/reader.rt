@@ -21,7 +21,8 @@ pub fn bytes_in(line: &[u8], from: usize, buffer: &mut [u8]) -> Result<usize, He
     walk(line, from, buffer)
 }
 
-// Counts the bytes of a line from a place on, and stores those for which the buffer has room.
+// Counts the bytes of a line from a place on, and stores those for which the buffer has room. A loop over what is left, and no iterator:
+// a blank is one character, and a byte two.
 #[tactic(auto, using(crate::proofs::Digits::below_16), unfolding(crate::specs::Hex::hex_from, crate::specs::Hex::second_from, crate::specs::Hex::is_blank, crate::specs::Walk::walking, crate::specs::Walk::counted))]
 fn walk(line: &[u8], from: usize, buffer: &mut [u8]) -> Result<usize, HexError>
     ensures { read result buffer.new

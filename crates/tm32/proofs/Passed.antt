@@ -1,11 +1,11 @@
 -- Calls and requests that the checks let through: what is known of the lent memory, and of a request by the verdict of a device, or on some link and with some option bytes.
 use Prim.Native.Nat.{ℕ}
 use mathlib.Core.Bool.{true}
-use mathlib.Core.Path.{◌≡◌, refl, sym, ap, ◌∙◌}
+use mathlib.Core.Path.{◌≡◌, sym, ap, ◌∙◌}
 use borrow.Author.Tests.{eqb-true, ltb-false, not-false}
 use Rattle.tm32_asks.proofs.Accepted.{next}
-use Rattle.tm32_asks.proofs.Verdicts.{is_not, none_fails_where_passed, pass_all, request_others}
-use Rattle.tm32_asks.specs.Checks.{checks_of, none_fails, numbers_of, verdict}
+use Rattle.tm32_asks.proofs.Verdicts.{none_fails_where_passed, request_others}
+use Rattle.tm32_asks.specs.Checks.{checks_of, none_fails}
 use Rattle.tm32_asks.specs.Options.{option_bytes}
 use Rattle.tm32_asks.specs.Results.{work_done}
 use Rattle.tm32_asks.specs.declared.Request.{Request}
@@ -36,8 +36,3 @@ lent device room pass =
       nvr = eqb-true _ _ (not-false _ nvr.0);
       space = ltb-false _ _ space.0;
     }
-
--- a call of which no check fails is lent what it must be
-pub let_in : (device : Device) (room : ℕ) → 0 ≡ verdict 0 (call_checks device room) → Lent device.memory room
-unfolding pass_all numbers_of is_not call_checks
-let_in device room says = lent device room (none_fails_where_passed 0 (call_checks device room) refl (sym says))

@@ -1,13 +1,12 @@
 // The device: one message, with the memory and the reply buffer that are lent for it.
 ghost use Rattle.std.specs.Prelude.{◌≡◌, ◌≤◌, length};
 ghost use Rattle.frame.specs.Frame.{data_of};
-ghost use Rattle.memory.specs.Stores.{same};
 ghost use Rattle.tm32.specs.After.{after, call_checks, reply_room};
 ghost use Rattle.tm32.specs.Device.{device_of, in_state};
 ghost use Rattle.tm32.specs.Promises.{Laid, SameSlices, call_number, held, lay_answer, leaves, lent_of};
 ghost use Rattle.tm32_asks.specs.Checks.{verdict};
 ghost use Rattle.tm32_asks.specs.Request.{request_in};
-ghost use Rattle.tm32.specs.Respond.{hello, hello_back, is_gone, is_waiting, reply_to, respond as respond_is, serve as serve_is, verdict_on};
+ghost use Rattle.tm32.specs.Respond.{hello_back, reply_to, respond as respond_is, serve as serve_is, verdict_on};
 ghost use Rattle.tm32_asks.specs.Results.{number_of, work_done};
 ghost use Rattle.tm32.specs.Work.{work as work_is};
 
@@ -32,7 +31,7 @@ pub const REPLY_ROOM: usize = 1030;
 impl Session {
     // A message: the session from then on, beside the length of the reply that stands at the start of the lent buffer, or a
     // refusal.
-    #[tactic(auto, using(crate::proofs::Answers::heard, crate::proofs::Answers::unheard, crate::proofs::Passed::let_in))]
+    #[tactic(auto, unfolding(crate::specs::After::after, crate::specs::After::tell, crate::specs::After::lay, crate::specs::After::call_checks, tm32_asks::specs::Checks::verdict))]
     pub fn answer(
         self,
         settings: Settings,
@@ -84,7 +83,9 @@ fn checked(session: Session, memory: &LentMemory, room: usize) -> Result<(), Ref
 }
 
 // The answer to a message that the call's own checks let through. What a call lends stays apart here and below: of one struct with
-// all of it each promise would have to say, too, that settings and message stay.
+// all of it each promise would have to say, too, that settings and message stay; of a type for a buffer with room, that it is the same
+// buffer, which is a clause more for the one that it saves.
+#[tactic(auto, unfolding(crate::specs::Respond::respond, crate::specs::Respond::greet, crate::specs::Respond::refuse, crate::specs::After::lay, frame::specs::Frame::laid), using(crate::proofs::Answers::alike))]
 fn respond(
     session: Session,
     settings: Settings,
@@ -98,16 +99,16 @@ fn respond(
         ≡ lay_answer buffer.old
         (respond_is settings (device_of session (held (lent_of memory.old))) message.now) }
 {
-    if message.is_empty() || is_gone(session.state) {
+    if message.is_empty() || matches!(session.state, State::Gone { .. }) {
         return Turn {
             session,
             answer: Ok(0),
         };
     }
-    if is_hello(message) {
+    if message == [HELLO].as_slice() {
         return greet(session, buffer);
     }
-    if is_waiting(session.state) {
+    if session.state == State::Waiting {
         return reply(
             settings.start,
             session,
@@ -119,27 +120,8 @@ fn respond(
     serve(session, settings, message, memory, buffer)
 }
 
-// Whether a session has Gone, and whether it still Waits.
-fn is_gone(state: State) -> bool
-    ensures { result ≡ is_gone state }
-{
-    matches!(state, State::Gone { .. })
-}
-
-fn is_waiting(state: State) -> bool
-    ensures { result ≡ is_waiting state }
-{
-    matches!(state, State::Waiting)
-}
-
-// Whether a message is the handshake.
-fn is_hello(message: &[u8]) -> bool
-    ensures { result ≡ same message.now hello }
-{
-    message == [HELLO].as_slice()
-}
-
 // The handshake, answered.
+#[tactic(auto, unfolding(frame::specs::Frame::laid))]
 fn greet(session: Session, buffer: &mut [u8]) -> Turn
     requires { reply_room ≤ length buffer.old }
     ensures { Laid result buffer.new (in_state session State.Talking) hello_back buffer.old }
@@ -152,6 +134,7 @@ fn greet(session: Session, buffer: &mut [u8]) -> Turn
 }
 
 // What a Talking device does with a message: it is read, checked, and refused or worked on.
+#[tactic(auto, unfolding(crate::specs::Respond::serve, crate::specs::Respond::refuse, crate::specs::After::lay))]
 fn serve(
     session: Session,
     settings: Settings,
@@ -182,6 +165,7 @@ fn verdict_on(session: Session, memory: &MappedMemory, request: Request) -> Resu
 }
 
 // The work of a request that the checks let through, and the reply to it.
+#[tactic(auto, unfolding(crate::specs::Work::work, crate::specs::Work::with_options, crate::specs::Respond::reply_to, crate::specs::After::lay, crate::specs::Respond::verdict_on, tm32_asks::specs::Checks::checks, tm32_asks::specs::Checks::verdict, tm32_asks::specs::Numbers::from_one_to), using(crate::proofs::Written::option_bytes_length, crate::proofs::Written::read_length))]
 fn work(
     session: Session,
     settings: Settings,

@@ -8,6 +8,7 @@ use tm32_asks::PAGE_SIZE;
 // An erased byte.
 const BLANK: u8 = 0xFF;
 
+// Of the one slice that it is lent it asks the length: the wipe, too, is lent the flash alone.
 #[tactic(auto, using(crate::proofs::Written::filled))]
 pub(crate) fn work(flash: &mut [u8], first: u32, count: u32)
     requires flash_sized { length flash.old ≡ flash_length }

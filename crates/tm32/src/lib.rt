@@ -95,7 +95,7 @@ impl fmt::Display for Refusal {
 impl Error for Refusal {}
 
 impl Refusal {
-    // 01's number for it, 1 to 5.
+    // 01's number for it, 1 to 5. By name, and not by From: a caller says which number it means.
     pub fn number(self) -> u8
         ensures { result ≡ refusal_number self }
     {
@@ -103,7 +103,8 @@ impl Refusal {
     }
 }
 
-// What a message leaves behind: the session from then on, and the length of the reply that stands at the start of the lent buffer.
+// What a message leaves behind: the session from then on, and the length of the reply that stands at the start of the lent buffer. A
+// length, and no part of the buffer: 01 has the session handed back beside the length.
 #[derive(Clone, Copy, Debug, PartialEq, Eq)]
 pub struct Turn {
     pub session: Session,

@@ -9,7 +9,7 @@ use crate::mapped::MappedMemory;
 use crate::read;
 use tm32_asks::Complaint;
 
-#[tactic(auto, unfolding(crate::specs::Work::compared), using(crate::proofs::Regions::user_is_read))]
+#[tactic(auto, unfolding(crate::specs::Work::compared, tm32_asks::specs::Map::in_read_region, tm32_asks::specs::Map::in_user_region, memory::specs::Ranges::within))]
 pub(crate) fn work(
     start: u16,
     memory: &MappedMemory,

@@ -10,7 +10,7 @@ use crate::mapped::MappedMemory;
 use tm32_asks::{FLASH_START, NVR_START, RAM_START, in_flash, in_nvr};
 
 // The bytes of a range in flash, RAM or NVR.
-#[tactic(auto, using(crate::proofs::Regions::held, crate::proofs::Regions::not_in_nvr, crate::proofs::Regions::bytes_in_nvr, crate::proofs::Regions::bytes_of_two))]
+#[tactic(auto, unfolding(crate::specs::Device::bytes_at, tm32_asks::specs::Map::in_read_region, memory::specs::Ranges::within))]
 pub(crate) fn work<'a>(memory: &'a MappedMemory, address: u32, count: u32) -> &'a [u8]
     requires { in_read_region address count ≡ true }
     ensures { result.now ≡ bytes_at (held (lent_of memory.now)) address count }
@@ -22,7 +22,7 @@ pub(crate) fn work<'a>(memory: &'a MappedMemory, address: u32, count: u32) -> &'
 }
 
 // The bytes of a range in flash or RAM: the address says in which. The two slices stay apart: document 01 names this form.
-#[tactic(auto, using(crate::proofs::Regions::held, crate::proofs::Regions::not_in_flash))]
+#[tactic(auto, unfolding(memory::specs::Ranges::within))]
 fn picked<'a>(flash: &'a [u8], ram: &'a [u8], address: u32, count: u32) -> &'a [u8]
     requires flash_sized { length flash.now ≡ flash_length }
     requires ram_sized { length ram.now ≡ ram_length }
@@ -38,7 +38,7 @@ fn picked<'a>(flash: &'a [u8], ram: &'a [u8], address: u32, count: u32) -> &'a [
 }
 
 // The bytes of a range in a memory that starts at an address.
-#[tactic(auto, unfolding(memory::specs::Stores::part), using(memory::proofs::Laws::region_holds))]
+#[tactic(auto, unfolding(memory::specs::Stores::part, memory::specs::Ranges::within))]
 fn range_of(memory: &[u8], start: u32, address: u32, count: u32) -> &[u8]
     requires { within start (length memory.now) address count ≡ true }
     ensures { result.now ≡ part memory.now (address - start) count }

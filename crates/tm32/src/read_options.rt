@@ -12,7 +12,7 @@ pub(crate) fn work<'a>(memory: &'a MappedMemory) -> &'a [u8]
     option_bytes(memory.nvr)
 }
 
-// The option bytes of an NVR.
+// The option bytes of an NVR, which Write options is lent apart.
 #[tactic(auto, unfolding(tm32_asks::specs::Options::option_bytes, memory::specs::Stores::part))]
 pub(crate) fn option_bytes(nvr: &[u8]) -> &[u8]
     requires { length nvr.now ≡ nvr_length }

@@ -13,7 +13,7 @@ use memory::Programmed;
 use tm32_asks::{Complaint, FLASH_START, NVR_START, RAM_START, in_flash, in_ram};
 
 // Writes bytes, and gives the result. RAM and NVR always read back as they were sent.
-#[tactic(auto, using(memory::proofs::Laws::stored, memory::proofs::Laws::region_holds, crate::proofs::Regions::user_elsewhere, crate::proofs::Writes::writes))]
+#[tactic(auto, unfolding(crate::specs::Work::written, crate::specs::Work::readback, crate::specs::Work::programmed_result, crate::specs::Device::bytes_at, tm32_asks::specs::Map::in_user_region), using(memory::proofs::Laws::stored, memory::proofs::Laws::region_holds, memory::proofs::Laws::part_of_replaced, memory::proofs::Laws::same_itself, crate::proofs::Written::kept_reads))]
 pub(crate) fn work(
     memory: &mut MappedMemory,
     flag: u8,

@@ -9,6 +9,7 @@ use crate::erase;
 use crate::read_options::option_bytes;
 use tm32_asks::{OPTIONS_PLACE, PAGE_COUNT, rdp_on};
 
+// Lent the two slices that it changes, and so asks their lengths: through the struct the one could not be read while the other changes.
 #[tactic(auto, using(memory::proofs::Laws::stored))]
 pub(crate) fn work(flash: &mut [u8], nvr: &mut [u8], options: &[u8])
     requires flash_sized { length flash.old ≡ flash_length }
@@ -22,6 +23,7 @@ pub(crate) fn work(flash: &mut [u8], nvr: &mut [u8], options: &[u8])
 }
 
 // The wipe, page by page.
+#[tactic(auto, using(crate::proofs::Written::none_wiped, crate::proofs::Written::page_wiped))]
 fn wipe(old: &[u8], new: &[u8], flash: &mut [u8])
     requires { length flash.old ≡ flash_length }
     ensures { flash.new ≡ wiped old.now new.now page_count flash.old }

@@ -68,9 +68,12 @@ fn protection(options: &[u8], request: Request) -> Result<(), Complaint>
         Request::Read { address, count } | Request::MemoryCrc { address, count, .. } => {
             read_verdict(options, flash_pages(address, count))
         }
-        Request::Write { address, count, .. } => {
-            write_verdict(options, flash_pages(address, count))
-        }
+        // The flag, too, is of no account to it.
+        Request::Write {
+            flag: _,
+            address,
+            count,
+        } => { write_verdict(options, flash_pages(address, count)) }
         Request::Erase { first, count } => {
             let pages = PageRun { first, count };
             read_verdict(options, pages)?;
@@ -122,7 +125,7 @@ fn flash_pages(address: u32, count: u32) -> PageRun
     if in_flash(address, count) {
         memory::touched(PAGE_SIZE, address - FLASH_START, count)
     } else {
-        PageRun { first: 0, count: 0 }
+        PageRun::NONE
     }
 }
 
@@ -135,7 +138,7 @@ fn past_the_last_page(first: u32, count: u32) -> bool
 }
 
 // PPS takes 1 to the last code, Read and Write 1 byte to the most, and Erase 1 page to all of them. A rate stays a code: 01 has the
-// rates in a table by code.
+// rates in a table by code. Each of the three lays a limit of the code against that of its definition, and so has a name.
 #[tactic(auto, unfolding(crate::specs::Numbers::from_one_to))]
 pub fn is_rate(code: u8) -> bool
     ensures { result ≡ is_rate code }

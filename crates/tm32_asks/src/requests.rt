@@ -137,7 +137,7 @@ pub fn bytes_to_write(payload: &[u8]) -> &[u8]
     payload.get(WRITE_HEAD..).unwrap_or(&[])
 }
 
-// The number in the four bytes from a place on.
+// The number in the four bytes from a place on. By two words, and not by `u32::from_le_bytes`: past the end they count as nought.
 #[tactic(auto, unfolding(crate::specs::Numbers::long_at))]
 fn long_at(bytes: &[u8], place: usize) -> u32
     requires { place < 8 }

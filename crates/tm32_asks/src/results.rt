@@ -5,7 +5,7 @@ ghost use Rattle.tm32_asks.specs.Results.{Tells, number_of};
 use std::error::Error;
 use std::fmt;
 
-// Work done.
+// Work done: the number of a reply that complains of nothing, and so no case of the enum.
 const WORK_DONE: u8 = 0x90;
 
 // What else a reply can say, each with 01's number.
@@ -37,7 +37,7 @@ pub enum Complaint {
     ReadbackDiffers = 0x92,
 }
 
-// The number by which a reply says it.
+// The number by which a reply says it. By name, and not by From, which cannot be written here for a Result of std.
 pub fn number_of(outcome: Result<(), Complaint>) -> u8
     ensures { result ≡ number_of outcome }
 {

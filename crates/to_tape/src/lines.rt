@@ -87,9 +87,10 @@ impl<'a, P: Print> Recorder<'a, P> {
             length: size,
             kind: MESSAGE,
         };
-        self.sheet.bytes(&head.to_bytes())?;
+        // Where the sheet cannot be written out it keeps that, and it is told when the lines of the block are done.
+        let _ = self.sheet.bytes(&head.to_bytes());
         let message = &mut *self.message;
-        self.sheet.bytes(stream::first(message, length))?;
+        let _ = self.sheet.bytes(stream::first(message, length));
         Ok(())
     }
 

@@ -12,6 +12,7 @@ use stream::Sheet;
 // How many bytes each of the blocks has that are lent: one more than the longest line may have.
 const ROOM: usize = 65536;
 
+// As `bench` begins, too: one function for the three would need a closure for what stands in the middle, and be no plainer.
 fn main(rt: HostRuntime) {
     let fresh = tape::fresh_settings();
     let told = arguments::start(&rt, fresh.start, &mut [0; 8], &mut [0; 8]);

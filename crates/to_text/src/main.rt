@@ -15,6 +15,7 @@ const BLOCK: usize = 131072;
 // How much is collected before it is written out.
 const PAPER: usize = 65536;
 
+// As `bench` begins, too: one function for the three would need a closure for what stands in the middle, and be no plainer.
 fn main(rt: HostRuntime) {
     let fresh = tape::fresh_settings();
     let told = arguments::start(&rt, fresh.start, &mut [0; 8], &mut [0; 8]);

@@ -2,8 +2,8 @@
 use crate::errors::Failure;
 use crate::words;
 use frame::Sound;
-use std::fmt;
 use std::io::Write;
+use std::{fmt, io};
 use stream::{Consumer, FillError, Sheet};
 use tape::{ERROR, Found, HEAD_LENGTH, MESSAGE, REPLY, TapeError};
 use tm32_asks::{Complaint, number_of};
@@ -19,6 +19,33 @@ impl<'a, P: Print> Describer<'a, P> {
     pub(crate) fn new(start: u16, sheet: Sheet<'a, P>) -> Self {
         Describer { start, sheet }
     }
+
+    // A record: its bytes, and what they say.
+    fn record(&mut self, kind: u16, body: &[u8]) -> io::Result<()> {
+        match kind {
+            MESSAGE => {
+                self.hex(b"> ", body)?;
+                writeln!(self.sheet, "{}", message(self.start, body))
+            }
+            REPLY => {
+                self.hex(b"< ", body)?;
+                writeln!(self.sheet, "{}", Reply::read(self.start, body))
+            }
+            ERROR => writeln!(self.sheet, "! {}", Wrong(body)),
+            _ => writeln!(self.sheet, "? kind 0x{kind:04X}, {} bytes", body.len()),
+        }
+    }
+
+    // Bytes as two digits each, with a space behind. They go on the sheet as they are: as a format, {:02X}, a tape takes five times
+    // as long.
+    fn hex(&mut self, mark: &[u8], bytes: &[u8]) -> io::Result<()> {
+        self.sheet.bytes(mark)?;
+        for byte in bytes {
+            let [high, low] = text::hex_of(*byte);
+            self.sheet.bytes(&[high, low, b' '])?;
+        }
+        Ok(())
+    }
 }
 
 impl<P: Print> Consumer for Describer<'_, P> {
@@ -26,7 +53,6 @@ impl<P: Print> Consumer for Describer<'_, P> {
 
     // The records that stand whole on the tape.
     fn consume(&mut self, tape: &[u8]) -> Result<usize, Failure> {
-        let start = self.start;
         let mut used = 0;
         // A while: how far the next record goes only its head says.
         while used < tape.len() {
@@ -34,12 +60,7 @@ impl<P: Print> Consumer for Describer<'_, P> {
             let Found::Whole(head) = tape::record_in(rest) else {
                 break;
             };
-            let record = Record {
-                start,
-                kind: head.kind,
-                body: tape::body_of(rest, head.length),
-            };
-            writeln!(self.sheet, "{record}")?;
+            self.record(head.kind, tape::body_of(rest, head.length))?;
             used += HEAD_LENGTH + usize::from(head.length);
         }
         self.sheet.written()?;
@@ -49,11 +70,10 @@ impl<P: Print> Consumer for Describer<'_, P> {
     // What is left where the tape ends.
     fn finish(&mut self, rest: &[u8]) -> Result<(), Failure> {
         if !rest.is_empty() {
-            writeln!(
-                self.sheet,
-                "? this tape is cut short: its last record is not whole"
-            )?;
-            self.sheet.written()?;
+            // It is the last that is said: where it cannot be written nothing is said in its place.
+            let words = b"? this tape is cut short: its last record is not whole\n";
+            let _ = self.sheet.bytes(words);
+            let _ = self.sheet.written();
         }
         Ok(())
     }
@@ -63,39 +83,6 @@ impl<P: Print> Consumer for Describer<'_, P> {
             FillError::Full => Failure::LongRecord,
             FillError::Failed => Failure::Unreadable,
         }
-    }
-}
-
-// A record, as it is told: its bytes, and what they say.
-#[derive(Clone, Copy)]
-struct Record<'b> {
-    start: u16,
-    kind: u16,
-    body: &'b [u8],
-}
-
-impl fmt::Display for Record<'_> {
-    fn fmt<W: fmt::Write>(&self, f: &mut fmt::Formatter<W>) -> fmt::Result {
-        let body = self.body;
-        match self.kind {
-            MESSAGE => write!(f, "> {}{}", Hex(body), message(self.start, body)),
-            REPLY => write!(f, "< {}{}", Hex(body), Reply::read(self.start, body)),
-            ERROR => write!(f, "! {}", Wrong(body)),
-            kind => write!(f, "? kind 0x{kind:04X}, {} bytes", body.len()),
-        }
-    }
-}
-
-// Bytes as two digits each, with a space behind.
-#[derive(Clone, Copy)]
-struct Hex<'b>(&'b [u8]);
-
-impl fmt::Display for Hex<'_> {
-    fn fmt<W: fmt::Write>(&self, f: &mut fmt::Formatter<W>) -> fmt::Result {
-        for byte in self.0 {
-            write!(f, "{byte:02X} ")?;
-        }
-        Ok(())
     }
 }
 

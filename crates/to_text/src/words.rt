@@ -1,6 +1,6 @@
 // Commands in words, by number. Document 01, "The ten commands".
 
-// The command of a sound frame.
+// The command of a sound frame. By its number: there is no type for a command without its fields, and a tape may hold any number.
 pub(crate) fn command(code: u8) -> &'static str {
     match code {
         0x00 => "PPS",

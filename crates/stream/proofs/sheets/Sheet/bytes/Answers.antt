@@ -49,11 +49,10 @@ module _ {sheet₀ sheet : Sheet} {buffer₀ buffer : List ℕ} (values : List �
       })
 
 pub loop-value-init : goal.loop-value-init
-loop-value-init g c = record { adds = none_added _ _; lasts = λ failed. refl; same_paper = refl }
+loop-value-init g c = record { adds = none_added _ _; goes_on = (refl, λ failed. refl) }
 
 pub loop-value-preserved : goal.loop-value-preserved
 loop-value-preserved g c = record {
   adds = one_added _ _ c.loop-value.invariant.adds c.loop-value-test.true c.byte.ensures.adds;
-  lasts = lasting c.loop-value.invariant.lasts c.byte.ensures.lasts;
-  same_paper = c.byte.ensures.same_paper ∙ c.loop-value.invariant.same_paper;
+  goes_on = (c.byte.ensures.goes_on.0 ∙ c.loop-value.invariant.goes_on.0, lasting c.loop-value.invariant.goes_on.1 c.byte.ensures.goes_on.1);
 }
