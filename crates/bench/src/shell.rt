@@ -19,7 +19,8 @@ pub(crate) fn run(
     requires { 4096 ≤ length block.old }
 {
     let mut session = tape::fresh(memory).map_err(BenchError::Memory)?;
-    // Which bytes of the block are tape that was not played yet, and whether the input ended behind them.
+    // Which bytes of the block are tape that was not played yet, and whether the input ended behind them: counts beside the block, since
+    // nothing is allocated.
     let mut from = 0;
     let mut held = 0;
     let mut ends = false;

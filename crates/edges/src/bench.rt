@@ -60,7 +60,7 @@ impl Memory {
     }
 }
 
-// How many bytes of each are lent.
+// How many bytes of each are lent, of memory that has more: a case may lend too little.
 #[derive(Clone, Copy, Debug, PartialEq, Eq)]
 struct Lent {
     flash: usize,

@@ -6,8 +6,7 @@ use crate::show::{Runs, SessionLine};
 use std::io;
 use tm32::Refusal;
 
-// What answers the handshake, and the result of work that is done.
-// The first byte of a handshake's answer, and the second of a reply to work done: as 01 prints them, and not as the code has them.
+// What answers the handshake, and the result of work that is done: as 01 prints them, and not as the code has them.
 const HELLO_BACK: u8 = 0x79;
 
 const WORK_DONE: u8 = 0x90;

@@ -29,7 +29,7 @@ fn times_in(written: &[u8]) -> usize {
     }
 }
 
-// The number that digits write to a base. What is no digit of it is passed over.
+// The number that digits write to a base. What is no digit of it is passed over, which `from_str_radix` would refuse.
 pub(crate) fn number_in(text: &[u8], base: u32) -> u32
     requires { base ≤ 16 }
 {

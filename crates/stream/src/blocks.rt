@@ -4,8 +4,8 @@ ghost use Rattle.stream.specs.Blocks.{ReadsOn};
 use crate::FillError;
 use std::io::Read;
 
-// Reads on behind the bytes that a block holds: how many it holds now, or none where the input has ended. No contract can say what
-// comes.
+// Reads on behind the bytes that a block holds: how many it holds now, or none where the input has ended. A count beside the block, since
+// nothing is allocated. No contract can say what comes.
 pub fn fill(rt: &impl Input, block: &mut [u8], held: usize) -> Result<Option<usize>, FillError>
     ensures { ReadsOn result held block.old block.new }
 {

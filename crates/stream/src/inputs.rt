@@ -29,8 +29,8 @@ pub trait Consumer {
 }
 
 // Reads standard input to its end, in a block that is lent. What is left is brought to the front here: `tape::keep_rest`, which does
-// the same, is above this crate. A proved loop has to end, and nothing says that the input does: the
-// turns are counted, up to a number that no run reaches.
+// the same, is of a crate that does not stand below this one. A proved loop has to end, and nothing says that the input does: the turns
+// are counted, up to a number that no run reaches.
 pub fn feed<C: Consumer>(
     rt: &impl Input,
     block: &mut [u8],

@@ -7,7 +7,7 @@ use crate::first;
 use std::io;
 use std::io::Write;
 
-// What is collected on lent paper: how many of its bytes, and what has come of writing it out. The first failure stays, and every
+// What is collected on lent paper, since nothing is allocated: how many of its bytes, and what has come of writing it out. The first failure stays, and every
 // call behind it tells it.
 #[derive(Drop)]
 pub struct Sheet<'a, P> {

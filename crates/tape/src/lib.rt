@@ -67,7 +67,7 @@ pub enum Stop {
 }
 
 // What playing leaves behind: the session from then on, how many bytes of the tape were used and how many of the buffer were
-// written, and why the player stopped.
+// written, and why the player stopped. Counts beside lent slices, since nothing is allocated.
 #[derive(Clone, Copy, Debug, PartialEq, Eq)]
 pub struct Played {
     pub session: Session,

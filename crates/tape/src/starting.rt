@@ -5,10 +5,7 @@ ghost use Rattle.tm32.specs.Promises.{SameSlices, held};
 ghost use Rattle.tape.specs.Starting.{started_by, starting};
 
 use tm32::{FLASH_LENGTH, LentMemory, Link, NVR_LENGTH, RAM_LENGTH, Refusal, Session, Settings};
-use tm32_asks::OPTIONS_PLACE;
-
-// An erased byte of the flash.
-const BLANK: u8 = 0xFF;
+use tm32_asks::{BLANK, OPTIONS_PLACE};
 
 // The option bytes, halfword by halfword: read protection off, and four ranges that start above their end.
 const OPTIONS: [u8; 22] = [

@@ -3,10 +3,7 @@ ghost use Rattle.std.specs.Prelude.{◌≡◌, ◌+◌, ◌≤◌, length};
 ghost use Rattle.tm32_asks.specs.Map.{flash_length, page_count};
 ghost use Rattle.tm32.specs.Work.{erased};
 
-use tm32_asks::PAGE_SIZE;
-
-// An erased byte.
-const BLANK: u8 = 0xFF;
+use tm32_asks::{BLANK, PAGE_SIZE};
 
 // Of the one slice that it is lent it asks the length: the wipe, too, is lent the flash alone.
 #[tactic(auto, using(crate::proofs::Written::filled))]

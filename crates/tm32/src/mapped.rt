@@ -1,4 +1,4 @@
-// The lent memory, once its lengths are known to be those of the map.
+// The lent memory, once its lengths are known to be those of the map: a type of its own, since what is lent may have any length.
 ghost use Rattle.std.specs.Prelude.{◌≡◌, length};
 ghost use Rattle.tm32_asks.specs.Map.{flash_length, nvr_length, ram_length};
 

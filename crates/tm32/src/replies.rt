@@ -9,7 +9,7 @@ ghost use Rattle.tm32.specs.Promises.{Laid};
 use crate::{Session, Turn};
 use tm32_asks::{Complaint, number_of};
 
-// A reply, whose buffer has room for any data.
+// A reply, whose buffer has room for any data. Its five parameters are as in `respond`: apart, so that no promise has to say what stays.
 #[tactic(auto, using(frame::proofs::Laws::written, frame::proofs::Laws::length_frame))]
 pub(crate) fn reply(
     start: u16,

@@ -22,7 +22,7 @@ pub(crate) fn work(flash: &mut [u8], nvr: &mut [u8], options: &[u8])
     memory::store(nvr, OPTIONS_PLACE, options).unwrap();
 }
 
-// The wipe, page by page.
+// The wipe, page by page. Lent the flash alone: nothing else is wiped.
 #[tactic(auto, using(crate::proofs::Written::none_wiped, crate::proofs::Written::page_wiped))]
 fn wipe(old: &[u8], new: &[u8], flash: &mut [u8])
     requires { length flash.old ≡ flash_length }

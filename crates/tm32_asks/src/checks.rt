@@ -110,7 +110,7 @@ fn write_verdict(options: &[u8], pages: PageRun) -> Result<(), Complaint>
     )
 }
 
-// One check: what is complained of where it fails.
+// One check: what is complained of where it fails. `tape` has its like for refusals, with a promise of its own.
 fn need(holds: bool, complaint: Complaint) -> Result<(), Complaint>
     ensures { result ≡ (if holds then Ok tt else Err complaint) }
 {

@@ -10,8 +10,8 @@ mod results;
 
 pub use checks::{is_rate, verdict};
 pub use map::{
-    FLASH_LENGTH, FLASH_START, NVR_LENGTH, NVR_START, OPTIONS_END, OPTIONS_PLACE, PAGE_COUNT,
-    PAGE_SIZE, RAM_LENGTH, RAM_START, in_flash, in_nvr, in_ram,
+    BLANK, FLASH_LENGTH, FLASH_START, NVR_LENGTH, NVR_START, OPTIONS_END, OPTIONS_PLACE,
+    PAGE_COUNT, PAGE_SIZE, RAM_LENGTH, RAM_START, in_flash, in_nvr, in_ram,
 };
 pub use options::rdp_on;
 pub use requests::{bytes_to_write, request_in};

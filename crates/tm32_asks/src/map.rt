@@ -19,6 +19,9 @@ const FLASH: Region = Region {
     length: FLASH_LENGTH,
 };
 
+// An erased byte of the flash.
+pub const BLANK: u8 = 0xFF;
+
 // The user RAM.
 pub const RAM_START: u32 = 0x20001C00;
 

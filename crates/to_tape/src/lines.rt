@@ -21,7 +21,7 @@ impl<P: Print> Consumer for Recorder<'_, P> {
     // The lines that end in the text.
     fn consume(&mut self, text: &[u8]) -> Result<usize, Failure> {
         let mut used = 0;
-        // A while: where a line ends the crate text says, and nothing is left of a last one.
+        // A while: what ends a line is said once, in the crate text, and split would say it again.
         while used < text.len() {
             let end = text::line_end(text, used);
             if text.len() <= end {
@@ -78,7 +78,7 @@ impl<'a, P: Print> Recorder<'a, P> {
         }
     }
 
-    // The message, of this length, as a record.
+    // The message, of this length in its buffer, as a record: a part of the buffer cannot be handed on beside the recorder that holds it.
     fn record(&mut self, length: usize) -> Result<(), Failure> {
         let Ok(size) = u16::try_from(length) else {
             return Err(self.wrong(LineError::TooLong));

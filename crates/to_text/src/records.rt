@@ -20,7 +20,7 @@ impl<'a, P: Print> Describer<'a, P> {
         Describer { start, sheet }
     }
 
-    // A record: its bytes, and what they say.
+    // A record: its bytes, and what they say. By a number, since any may stand for a kind.
     fn record(&mut self, kind: u16, body: &[u8]) -> io::Result<()> {
         match kind {
             MESSAGE => {
@@ -86,7 +86,7 @@ impl<P: Print> Consumer for Describer<'_, P> {
     }
 }
 
-// What a message asks for.
+// What a message asks for. The bytes of the handshake are as 01 prints them: what is told does not go by the device.
 fn message(start: u16, body: &[u8]) -> &'static str {
     match body {
         [0x7F] => "handshake",
