@@ -1,5 +1,5 @@
 -- A sheet: what is collected for standard output. Only the system knows whether it takes what is written out; all else is laid down here, for either answer.
-use Rattle.std.specs.Prelude.{ℕ, ◌+◌, Bool, cond, not, false, List, [], ◌∷◌, ◌≡◌, Result, IsErr, is_err, ltb, length, set}
+use Rattle.std.specs.Prelude.{ℕ, ◌+◌, Bool, cond, not, false, List, [], ◌∷◌, ◌≡◌, Result, Ok, Err, IsErr, is_err, ltb, length, set}
 use Rattle.stream.specs.declared.sheets.Sheet as code
 
 -- How far a sheet is filled, and whether it has failed.
@@ -70,6 +70,11 @@ Lasts before after = IsErr before → after ≡ before
 -- A sheet goes on as the same one: on the same paper, and with the first failure.
 abbrev pub GoesOn : {P : Type 0} → code.Sheet P → code.Sheet P → Type 0
 GoesOn before after = (after.paper.ghost_name ≡ before.paper.ghost_name) × Lasts before.outcome after.outcome
+
+-- What is told of so many bytes: that they are on the sheet, or how writing it out failed.
+abbrev pub told : {E : Type 0} → Result Unit E → ℕ → Result ℕ E
+told (Ok done) count = Ok count
+told (Err error) count = Err error
 
 pub record MakesRoom (size : ℕ) (sheet after : Sheet) : Type 0 where
   pub taken : Bool

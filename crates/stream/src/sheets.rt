@@ -1,14 +1,16 @@
 // The sheet that standard output is collected on. Where its paper is full it is written out, and where that fails nothing more
 // is.
-ghost use Rattle.std.specs.Prelude.{◌≡◌, is_ok, length, not, take};
-ghost use Rattle.stream.specs.Sheets.{Adds, AddsAll, GoesOn, MakesRoom, WritesOut, empty_sheet, filled, on_paper, sheet_of};
+ghost use Rattle.std.specs.Io.KnownBytes.{WriteAppends};
+ghost use Rattle.std.specs.Io.{WritesAtMost};
+ghost use Rattle.std.specs.Prelude.{◌≡◌, None, is_ok, length, not, take};
+ghost use Rattle.stream.specs.Sheets.{Adds, AddsAll, GoesOn, MakesRoom, WritesOut, empty_sheet, filled, on_paper, sheet_of, told};
 
 use crate::first;
 use std::io;
 use std::io::Write;
 
-// What is collected on lent paper, since nothing is allocated: how many of its bytes, and what has come of writing it out. The first failure stays, and every
-// call behind it tells it.
+// What is collected on lent paper, since nothing is allocated: how many of its bytes, and what has come of writing it out. The first
+// failure stays, and every call behind it tells it.
 #[derive(Drop)]
 pub struct Sheet<'a, P> {
     to: &'a P,
@@ -104,12 +106,24 @@ impl<'a, P: Print> Sheet<'a, P> {
 }
 
 impl<P: Print> Write for Sheet<'_, P> {
-    fn write(&mut self, bytes: &[u8]) -> io::Result<usize> {
+    // What `bytes` promises, and in the last two clauses what std asks of a writer.
+    fn write(&mut self, bytes: &[u8]) -> io::Result<usize>
+        ensures adds { AddsAll (filled self.old) (on_paper self.old) bytes.now (filled self.new) (on_paper self.new) }
+        ensures tells { result ≡ told self.new.outcome (length bytes.now) }
+        ensures goes_on { GoesOn self.old self.new }
+        ensures bound { WritesAtMost result bytes.now }
+        ensures appends { WriteAppends None None result bytes.now }
+    {
         self.bytes(bytes)?;
         Ok(bytes.len())
     }
 
-    fn flush(&mut self) -> io::Result<()> {
+    fn flush(&mut self) -> io::Result<()>
+        ensures writes { WritesOut (filled self.old) (filled self.new) }
+        ensures tells { result ≡ self.new.outcome }
+        ensures as_it_was { on_paper self.new ≡ on_paper self.old }
+        ensures goes_on { GoesOn self.old self.new }
+    {
         self.written()
     }
 }

@@ -1,7 +1,8 @@
--- Document 01, "What nobody may be able to fake": no two outcomes satisfy the contract of a public function of `frame`, `memory`, `tm32_asks`, `tm32` or `tape`. A contract is an equation:
+-- Document 01, "What nobody may be able to fake": no two outcomes satisfy the contract of a public function of `frame`, `memory`, `tm32` or `tape`. A contract is an equation:
 -- what came out is what a definition works out. So two outcomes that both satisfy it, for one input, are the same. Where slices were lent to be changed, what came out is the
 -- result put together with each of them as it is then: here is shown, of each of these ways to put them together, that the same whole has the same parts. The functions with no
--- slice to change have no part but the result. An answer that a promise gives in numbers is fixed by them: no two answers are told by one number.
+-- slice to change have no part but the result. An answer that a promise gives in numbers is fixed by them: no two answers are told by one number; that of `tm32_asks` has
+-- its page there.
 use Rattle.std.specs.Prelude.{ℕ, List, ◌≡◌, Result, ⊤}
 use Rattle.std.specs.Result.{result_map_both}
 use Rattle.std.proofs.Common.{Ok, Err, ap, ap₂, refl, sym, ◌∙◌}
@@ -17,9 +18,6 @@ use Rattle.tape.specs.Starting.{Start, started_by}
 use Rattle.tape.specs.declared.Stop.{Stop}
 use Rattle.tape.proofs.OneOutcome.{same_stop}
 use Rattle.tape.specs.declared.Played.{Played}
-use Rattle.tm32_asks.specs.Results.{number_of}
-use Rattle.tm32_asks.specs.declared.results.Complaint.{Complaint}
-use Rattle.tm32_asks.proofs.OneOutcome.{same_answer as same_outcome}
 use Rattle.tm32.specs.After.{After, refusal_number}
 use Rattle.tm32.specs.Device.{memory_of}
 use Rattle.tm32.specs.Promises.{leaves, turn_of}
@@ -52,10 +50,6 @@ pub program_once : (one other : Result Programmed Outside) (memory memory' : Lis
 program_once one other memory memory' right first second =
     let same = first ∙ sym second in
     (ap (λ (o : stores.Outcome). o.answer) same, ap (λ (o : stores.Outcome). o.memory) same)
-
--- tm32_asks: verdict, by the number of its answer
-pub verdict_once : (one other : Result ⊤ Complaint) (right : ℕ) → number_of one ≡ right → number_of other ≡ right → one ≡ other
-verdict_once one other right first second = same_outcome one other (first ∙ sym second)
 
 -- tm32: answer
 pub answer_once : (one other : Turn) (flash flash' ram ram' nvr nvr' buffer buffer' : List ℕ) (right : After)

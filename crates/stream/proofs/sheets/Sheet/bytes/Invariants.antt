@@ -1,5 +1,4 @@
 -- The loop of `stream::Sheet::bytes`: byte for byte, in order, with one answer of the system for each.
-use mathlib.Core.Path.{◌≡◌}
 use lib.ListN.{take}
 use Rattle.stream.specs.Sheets.{AddsAll, GoesOn, filled}
 use Rattle.stream.proofs.sheets.Sheet.bytes.Given as goal
