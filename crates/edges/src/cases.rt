@@ -2,6 +2,7 @@
 use crate::bench::{Bench, HELLO};
 use crate::lines::{self, Line, Question, Setting};
 use crate::report::Report;
+use crate::scan::is;
 use crate::show::{Runs, SessionLine};
 use std::io;
 use tm32::Refusal;
@@ -15,7 +16,7 @@ const WORK_DONE: u8 = 0x90;
 pub(crate) fn run(rt: &impl Print, text: &[u8]) -> io::Result<()> {
     let mut bench = Bench::new();
     let mut report = Report::new(rt);
-    for line in text.split(|c| *c == b'\n') {
+    for line in text.split(|c| is(*c, b'\n')) {
         obey(&mut bench, &mut report, line)?;
     }
     report.end_line()

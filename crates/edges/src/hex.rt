@@ -1,10 +1,12 @@
 // Numbers and bytes as they are written in the lines: bytes as 01 prints them, `2D 41`, and many of one byte as `FF*1024`.
 ghost use Rattle.std.specs.Prelude.{◌≤◌};
 
+use crate::scan::is;
+
 // Reads bytes into a room, word by word. None where they are not written as they should be, or there is too little room.
 pub(crate) fn bytes_in<'r>(text: &[u8], room: &'r mut [u8]) -> Option<&'r [u8]> {
     let mut count = 0;
-    for word in text.split_inclusive(|c| *c == b' ') {
+    for word in text.split_inclusive(|c| is(*c, b' ')) {
         count = with_word(count, word, room)?;
     }
     room.get(..count)

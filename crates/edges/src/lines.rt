@@ -1,5 +1,6 @@
 // What a line of the cases says. The first lines of the file `stdin` tell how they are written.
 use crate::hex;
+use crate::scan::is;
 use tm32::Link;
 
 // How long a message may be, and so what stands for it on a line.
@@ -110,7 +111,7 @@ fn link_of(value: &[u8]) -> Link {
 
 // The first word, and what stands behind it.
 fn words_in(body: &[u8]) -> (&[u8], &[u8]) {
-    let mut words = body.splitn(2, |c| *c == b' ');
+    let mut words = body.splitn(2, |c| is(*c, b' '));
     let first = words.next().unwrap_or(b"");
     (first, words.next().unwrap_or(b""))
 }

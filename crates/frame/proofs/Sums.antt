@@ -8,9 +8,13 @@ use lib.Bits.{xor_lt}
 use Rattle.std.proofs.lemmas.Bool.Decides.{nat_tests}
 use Rattle.frame.specs.Crc.{polynomial, shifted, bit_done, bits_done, byte_done, crc}
 
+pub shifted_fits : (value : ℕ) → shifted value < 2 ^ 16
+unfolding shifted
+shifted_fits value = omega arith
+
 bit_fits : (value : ℕ) → bit_done value < 2 ^ 16
-unfolding bit_done shifted polynomial
-bit_fits value = grind (arith, nat_tests, xor_lt 16)
+unfolding bit_done polynomial
+bit_fits value = grind (arith, nat_tests, xor_lt 16, shifted_fits value)
 
 bits_fit : (count value : ℕ) → value < 2 ^ 16 → bits_done count value < 2 ^ 16
 unfolding bits_done

@@ -8,10 +8,11 @@ mod tally;
 mod wire;
 
 use std::io;
+use stream::Onward;
 
 fn main(rt: HostRuntime) {
-    // Where standard output cannot be written, there is nobody left to tell.
-    let _ = run(&rt);
+    // Where standard output cannot be written, there is nobody left to tell, and what comes behind is tried all the same.
+    let _ = run(&Onward(&rt));
 }
 
 fn run(rt: &impl Print) -> io::Result<()> {

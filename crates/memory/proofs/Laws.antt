@@ -1,36 +1,39 @@
 -- The laws of lent memory: what a crate above goes by, with no definition of this crate opened. Each holds of any numbers and any lists.
---     length_part, part_at, part_same         a part of a memory
---     length_replaced, part_of_replaced, replaced_inside, replaced_before, replaced_behind
+--     length_part, part_at, parts_sized, part_same     a part of a memory
+--     length_replaced, part_of_replaced, replaced_inside, replaced_before, replaced_behind, replaced_nothing
 --                                            a memory with other bytes from a place on: these stand there, and every other byte is as it was
 --     length_masked, masked_at, length_kept, kept_at     what programming leaves of bytes that are given
 --     same_itself, same_equal                the comparison of two lists
 --     stored, store_leaves, not_stored, programmed, not_programmed     which answer a store gives, and what it leaves of the memory
+--     store_answered                         the other way round: what is known of a store by its answer
 --     in_region, region_holds                a range lies in a region just where both its ends do
---     some_page_passes, some_grows, some_either     whether some page of a run passes a test
+--     some_page_passes, some_none, some_one, some_grows, some_either     whether some page of a run passes a test
 --     covered, covers_known, meets_is        ranges of page numbers
 --     no_earlier, touched_is, touched_nothing, touched_page, page_touched     the run of the pages on which a range has a byte
 --     part_bytes, masked_bytes, kept_bytes, replicate_bytes, replaced_bytes     bytes stay bytes
 -- Assumes nothing.
 use Prim.Native.Nat.{ℕ, zero, suc, ◌+◌, ◌-◌, ◌*◌, ◌/◌, ◌≤◌, ◌<◌}
-use mathlib.Core.Bool.{Bool, true, cond, ◌||◌}
+use mathlib.Core.Bool.{Bool, true, false, cond, ◌||◌}
 use mathlib.Core.List.{List, [], ◌∷◌}
 use mathlib.Core.Path.{◌≡◌, refl, sym, ap, ◌∙◌}
 use native.Mathlib.Decide.{dec_le}
 use native.Mathlib.Nat.{div-mul-le_self, le_refl, le_trans, le-div_iff_mul-le, mul-div_cancel}
 use native.Mathlib.Omega.{arith}
 use lib.Bits.{bit_and, and_zero_l, and_zero_r, and_le_r}
-use lib.ListN.{length, get_or, replicate}
+use lib.Dec.{leb}
+use lib.ListN.{length, get_or, replicate, length-take, length-drop}
+use lib.Seq.{paste-zero}
 use Rattle.std.proofs.lemmas.Bool.Decides.{nat_tests}
 use Rattle.std.proofs.lemmas.Grind.{common_steps, elements}
 use Rattle.std.proofs.lemmas.List.{get_or_past}
-use Rattle.std.specs.Prelude.{Result, Ok, Err, ⊤}
+use Rattle.std.specs.Prelude.{Result, Ok, Err, ⊤, is_ok}
 use Rattle.memory.specs.Pages.{pages, touched, some_page, covers, meets}
 use Rattle.memory.specs.Ranges.{within}
 use Rattle.memory.specs.Stores.{part, replaced, masked, same, kept, holds, Change, change, outside, replacing, outcome, programming}
 use Rattle.memory.specs.declared.Outside.{Outside}
 use Rattle.memory.specs.declared.PageRun.{PageRun}
 use Rattle.memory.specs.declared.Programmed.TheVariants.{AsGiven, Differs}
-use Rattle.memory.proofs.Runs.{found, grows, either}
+use Rattle.memory.proofs.Runs.{alone, found, grows, either, none_found}
 
 -- ---- a part of a memory
 
@@ -43,6 +46,11 @@ length_part memory place count fits = grind (arith, common_steps)
 pub part_at : (memory : List ℕ) (place count i : ℕ) → i < count → get_or (part memory place count) i 0 ≡ get_or memory (place + i) 0
 unfolding part
 part_at memory place count i inside = grind (arith, common_steps)
+
+-- parts of memories of one length are of one length
+pub parts_sized : (one other : List ℕ) (place count : ℕ) → length one ≡ length other → length (part one place count) ≡ length (part other place count)
+unfolding part
+parts_sized one other place count sized = simp (length-take, length-drop, sized)
 
 -- two memories of one length that agree on a range have the same part there
 pub part_same : (one other : List ℕ) (place count : ℕ) → length one ≡ length other → ((i : ℕ) → place ≤ i → i < place + count → get_or one i 0 ≡ get_or other i 0)
@@ -75,6 +83,11 @@ module _ (memory : List ℕ) (place : ℕ) (bytes : List ℕ) (fits : place + le
   pub replaced_behind : (i : ℕ) → place + length bytes ≤ i → get_or (replaced memory place bytes) i 0 ≡ get_or memory i 0
   unfolding replaced
   replaced_behind i behind = grind (arith, elements)
+
+-- no bytes change nothing, wherever they are put
+pub replaced_nothing : (memory : List ℕ) (place : ℕ) → replaced memory place [] ≡ memory
+unfolding replaced
+replaced_nothing memory place = sym (paste-zero memory place [])
 
 -- ---- bytes that can only be cleared
 
@@ -137,6 +150,13 @@ module _ (memory : List ℕ) (place : ℕ) (bytes : List ℕ) where
   unfolding replacing holds
   not_stored short = grind (arith, nat_tests)
 
+  -- the other way round: the answer is whether they fit, and says what the memory is now
+  pub store_answered : (done : Result ⊤ Outside) (after : List ℕ) → change done after ≡ replacing memory place bytes
+      → (leb (place + length bytes) (length memory) ≡ is_ok done) × (after ≡ cond (is_ok done) (replaced memory place bytes) memory)
+  unfolding replacing holds
+  store_answered (Ok done) after equal = (grind (arith, nat_tests), grind (arith, nat_tests))
+  store_answered (Err error) after equal = (grind (arith, nat_tests), grind (arith, nat_tests))
+
   -- bytes that fit are programmed, and the answer is whether they are kept as given
   pub programmed : place + length bytes ≤ length memory → programming memory place bytes
       ≡ outcome (Ok (cond (same (kept memory place bytes) bytes) AsGiven Differs)) (replaced memory place (kept memory place bytes))
@@ -167,10 +187,20 @@ pub some_page_passes : (test : ℕ → Bool) (run : PageRun) (page : ℕ) → ru
 unfolding some_page
 some_page_passes test run page from before passes = found test run.count run.first page from before passes
 
+-- none passes where no page of the run does
+pub some_none : (test : ℕ → Bool) (run : PageRun) → ((page : ℕ) → run.first ≤ page → page < run.first + run.count → test page ≡ false) → some_page test run ≡ false
+unfolding some_page
+some_none test run none = none_found test run.count run.first none
+
 -- a test that passes wherever another does finds some page wherever the other does
 pub some_grows : (test wider : ℕ → Bool) (run : PageRun) → ((page : ℕ) → test page ≡ true → wider page ≡ true) → some_page test run ≡ true → some_page wider run ≡ true
 unfolding some_page
 some_grows test wider run implies passes = grows test wider implies run.count run.first passes
+
+-- a run of one page passes where the page does
+pub some_one : (test : ℕ → Bool) (page : ℕ) → some_page test (pages page 1) ≡ test page
+unfolding some_page
+some_one test page = alone test page
 
 -- two tests tried together, page by page, find a page where one of them finds one
 pub some_either : (one other : ℕ → Bool) (run : PageRun) → some_page (λ page. one page || other page) run ≡ some_page one run || some_page other run

@@ -1,6 +1,6 @@
 -- Which page of a run passes a test, and for a range of page numbers what the ends alone say of it.
 use Prim.Native.Nat.{ℕ, zero, suc, ◌+◌, ◌≤◌, ◌<◌, max, min}
-use mathlib.Core.Bool.{Bool, true, ◌||◌}
+use mathlib.Core.Bool.{Bool, true, false, ◌||◌, or-false}
 use mathlib.Core.Path.{◌≡◌, refl}
 use native.Mathlib.Omega.{arith}
 use lib.Dec.{ltb}
@@ -12,6 +12,18 @@ pub found : (test : ℕ → Bool) (count first page : ℕ) → first ≤ page �
 unfolding some_from
 found test zero first page from before passes = absurd (omega arith)
 found test (suc count) first page from before passes = grind (arith, nat_tests, found test count (first + 1) page)
+
+-- where no page of the run passes none is found
+pub none_found : (test : ℕ → Bool) (count first : ℕ) → ((page : ℕ) → first ≤ page → page < first + count → test page ≡ false) → some_from test first count ≡ false
+unfolding some_from
+none_found test zero first none = refl
+none_found test (suc count) first none =
+    rw (none first (omega arith) (omega arith)) (none_found test count (first + 1) (λ page from before. none page (omega arith) (omega arith)))
+
+-- one page decides for itself
+pub alone : (test : ℕ → Bool) (page : ℕ) → some_from test page 1 ≡ test page
+unfolding some_from
+alone test page = or-false (test page)
 
 -- a test that passes wherever another does finds a page wherever the other does
 pub grows : (test wider : ℕ → Bool) → ((page : ℕ) → test page ≡ true → wider page ≡ true)

@@ -17,6 +17,10 @@ empty_and_failed is = false≢true (ap (λ (sheet : Sheet). sheet.failed) is)
 empty_with_a_byte : empty_sheet ≢ sheet_of 1 false
 empty_with_a_byte is = true≢false (ap (λ (sheet : Sheet). eqb sheet.place 0) is)
 
+-- resumed and sheet: a sheet with bytes on it is begun anew, so that they would be lost
+begun_anew : sheet_of 5 false ≢ empty_sheet
+begun_anew is = false≢true (ap (λ (sheet : Sheet). eqb sheet.place 0) is)
+
 -- written: what was collected stays on the sheet, and would be written twice
 written_and_kept : WritesOut (sheet_of 5 false) (sheet_of 5 false) → ⊥
 unfolding written_out

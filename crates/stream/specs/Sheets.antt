@@ -1,23 +1,19 @@
 -- A sheet: what is collected for standard output. Only the system knows whether it takes what is written out; all else is laid down here, for either answer.
 use Rattle.std.specs.Prelude.{ℕ, ◌+◌, Bool, cond, not, false, List, [], ◌∷◌, ◌≡◌, Result, Ok, Err, IsErr, is_err, ltb, length, set}
-use Rattle.stream.specs.declared.sheets.Sheet as code
-
--- How far a sheet is filled, and whether it has failed.
-pub record Sheet : Type 0 where
-  pub place : ℕ
-  pub failed : Bool
+use Rattle.stream.specs.declared.sheets.SheetWriter as code
+pub use Rattle.stream.specs.declared.sheets.Sheet.{Sheet}
 
 -- A sheet with so many bytes on it, which has failed or not.
 abbrev pub sheet_of : ℕ → Bool → Sheet
 sheet_of place failed = record { place = place; failed = failed }
 
--- The same of the code's sheet, which keeps what has come of writing it out.
-abbrev pub filled : {P : Type 0} → code.Sheet P → Sheet
-filled sheet = sheet_of sheet.place (is_err sheet.outcome)
+-- The sheet of a writer, which keeps what has come of writing it out.
+abbrev pub filled : {P : Type 0} → code.SheetWriter P → Sheet
+filled writer = sheet_of writer.place (is_err writer.outcome)
 
 -- The bytes of its paper.
-abbrev pub on_paper : {P : Type 0} → code.Sheet P → List ℕ
-on_paper sheet = sheet.paper.now
+abbrev pub on_paper : {P : Type 0} → code.SheetWriter P → List ℕ
+on_paper writer = writer.paper.now
 
 -- Nothing is collected, and nothing has failed.
 abbrev pub empty_sheet : Sheet
@@ -67,8 +63,8 @@ pub record WritesOut (sheet after : Sheet) : Type 0 where
 abbrev pub Lasts : {E : Type 0} → Result Unit E → Result Unit E → Type 0
 Lasts before after = IsErr before → after ≡ before
 
--- A sheet goes on as the same one: on the same paper, and with the first failure.
-abbrev pub GoesOn : {P : Type 0} → code.Sheet P → code.Sheet P → Type 0
+-- A writer goes on as the same one: on the same paper, and with the first failure.
+abbrev pub GoesOn : {P : Type 0} → code.SheetWriter P → code.SheetWriter P → Type 0
 GoesOn before after = (after.paper.ghost_name ≡ before.paper.ghost_name) × Lasts before.outcome after.outcome
 
 -- What is told of so many bytes: that they are on the sheet, or how writing it out failed.

@@ -5,11 +5,13 @@
 mod blocks;
 mod errors;
 mod inputs;
+mod onward;
 mod parts;
 mod sheets;
 
 pub use blocks::fill;
 pub use errors::FillError;
 pub use inputs::{Consumer, feed};
+pub use onward::Onward;
 pub use parts::{behind, first};
-pub use sheets::Sheet;
+pub use sheets::{Sheet, SheetWriter};

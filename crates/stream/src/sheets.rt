@@ -1,31 +1,81 @@
 // The sheet that standard output is collected on. Where its paper is full it is written out, and where that fails nothing more
-// is.
+// is. A sheet is a value, that each call takes and hands back; what holds its paper and the handle, too, is its writer.
 ghost use Rattle.std.specs.Io.KnownBytes.{WriteAppends};
 ghost use Rattle.std.specs.Io.{WritesAtMost};
-ghost use Rattle.std.specs.Prelude.{◌≡◌, None, is_ok, length, not, take};
+ghost use Rattle.std.specs.Prelude.{◌≡◌, ◌+◌, ◌≤◌, ◌↔◌, IsTrue, None, is_ok, length, not, take};
 ghost use Rattle.stream.specs.Sheets.{Adds, AddsAll, GoesOn, MakesRoom, WritesOut, empty_sheet, filled, on_paper, sheet_of, told};
 
 use crate::first;
 use std::io;
-use std::io::Write;
+use std::io::{ErrorKind, Write};
 
-// What is collected on lent paper, since nothing is allocated: how many of its bytes, and what has come of writing it out. The first
-// failure stays, and every call behind it tells it.
+// What is collected on lent paper, since nothing is allocated: how many of its bytes, and whether it could not be written out.
+#[derive(Clone, Copy, Debug, PartialEq, Eq)]
+pub struct Sheet {
+    pub place: usize,
+    pub failed: bool,
+}
+
+impl Sheet {
+    pub fn empty() -> Self
+        ensures { result ≡ empty_sheet }
+    {
+        Sheet {
+            place: 0,
+            failed: false,
+        }
+    }
+
+    // One byte more.
+    pub fn byte(self, rt: &impl Print, buffer: &mut [u8], value: u8) -> Self
+        ensures { Adds self buffer.old value result buffer.new }
+    {
+        let mut writer = SheetWriter::resumed(self, rt, buffer);
+        writer.byte(value);
+        writer.sheet()
+    }
+
+    // Some bytes more.
+    pub fn bytes(self, rt: &impl Print, buffer: &mut [u8], values: &[u8]) -> Self
+        ensures { AddsAll self buffer.old values.now result buffer.new }
+    {
+        let mut writer = SheetWriter::resumed(self, rt, buffer);
+        let _ = writer.bytes(values);
+        writer.sheet()
+    }
+
+    // All of it is written out.
+    pub fn written(self, rt: &impl Print, buffer: &[u8]) -> Self
+        ensures { WritesOut self result }
+    {
+        if self.failed {
+            return self;
+        }
+        let taken = rt.write_all(first(buffer, self.place)).is_ok();
+        Sheet {
+            place: 0,
+            failed: !taken,
+        }
+    }
+}
+
+// A sheet in use, with the handle that it is written out by and the paper that it is lent. In place of whether it has failed it keeps what
+// has come of writing it out: the first failure stays, and every call behind it tells it.
 #[derive(Drop)]
-pub struct Sheet<'a, P> {
+pub struct SheetWriter<'a, P> {
     to: &'a P,
     paper: &'a mut [u8],
     place: usize,
     outcome: io::Result<()>,
 }
 
-impl<'a, P: Print> Sheet<'a, P> {
+impl<'a, P: Print> SheetWriter<'a, P> {
     pub fn empty(to: &'a P, paper: &'a mut [u8]) -> Self
         ensures empty { filled result ≡ empty_sheet }
         ensures as_it_was { on_paper result ≡ paper.old }
         ensures same_paper { result.paper.ghost_name ≡ paper.entry.ghost_name }
     {
-        Sheet {
+        SheetWriter {
             to,
             paper,
             place: 0,
@@ -33,16 +83,70 @@ impl<'a, P: Print> Sheet<'a, P> {
         }
     }
 
-    // Some bytes more. Where it has failed by then, that is told. Byte by byte: between any two the sheet may be written out.
+    // Goes on with a sheet, on its paper.
+    pub fn resumed(sheet: Sheet, to: &'a P, paper: &'a mut [u8]) -> Self
+        ensures resumed { filled result ≡ sheet }
+        ensures as_it_was { on_paper result ≡ paper.old }
+        ensures same_paper { result.paper.ghost_name ≡ paper.entry.ghost_name }
+    {
+        SheetWriter {
+            to,
+            paper,
+            place: sheet.place,
+            outcome: if sheet.failed {
+                Err(io::Error::other("the sheet could not be written out"))
+            } else {
+                Ok(())
+            },
+        }
+    }
+
+    // The sheet as it stands.
+    pub fn sheet(&self) -> Sheet
+        ensures { result ≡ filled self.now }
+    {
+        Sheet {
+            place: self.place,
+            failed: self.outcome.is_err(),
+        }
+    }
+
+    // Some bytes more. Where it has failed by then, that is told. Byte by byte where they do not all fit: between any two the sheet may be
+    // written out.
     pub fn bytes(&mut self, values: &[u8]) -> io::Result<()>
         ensures adds { AddsAll (filled self.old) (on_paper self.old) values.now (filled self.new) (on_paper self.new) }
         ensures tells { result ≡ self.new.outcome }
         ensures goes_on { GoesOn self.old self.new }
     {
+        if self.has_room(values.len()) {
+            self.lay(values);
+            return self.outcome;
+        }
         for value in values {
             self.byte(*value);
         }
         self.outcome
+    }
+
+    // Whether so many bytes fit on what is left of the paper.
+    fn has_room(&self, count: usize) -> bool
+        ensures { IsTrue result ↔ self.now.place + count ≤ length (on_paper self.now) }
+    {
+        match self.place.checked_add(count) {
+            Some(end) => end <= self.paper.len(),
+            None => false,
+        }
+    }
+
+    // Bytes that fit, laid behind what is on it.
+    fn lay(&mut self, values: &[u8])
+        requires { self.old.place + length values.now ≤ length (on_paper self.old) }
+        ensures adds { AddsAll (filled self.old) (on_paper self.old) values.now (filled self.new) (on_paper self.new) }
+        ensures goes_on { GoesOn self.old self.new }
+    {
+        let end = self.place + values.len();
+        self.paper[self.place..end].copy_from_slice(values);
+        self.place = end;
     }
 
     // One byte more.
@@ -81,7 +185,7 @@ impl<'a, P: Print> Sheet<'a, P> {
     {
         self.outcome?;
         let to = self.to;
-        let answer = to.write_all(self.collected());
+        let answer = lasting(to.write_all(self.collected()));
         self.empty_by(answer);
         answer
     }
@@ -105,7 +209,7 @@ impl<'a, P: Print> Sheet<'a, P> {
     }
 }
 
-impl<P: Print> Write for Sheet<'_, P> {
+impl<P: Print> Write for SheetWriter<'_, P> {
     // What `bytes` promises, and in the last two clauses what std asks of a writer.
     fn write(&mut self, bytes: &[u8]) -> io::Result<usize>
         ensures adds { AddsAll (filled self.old) (on_paper self.old) bytes.now (filled self.new) (on_paper self.new) }
@@ -125,5 +229,18 @@ impl<P: Print> Write for Sheet<'_, P> {
         ensures goes_on { GoesOn self.old self.new }
     {
         self.written()
+    }
+}
+
+// What the system answers, as it is kept. Who is told that a write was interrupted tries again, and told so for ever it would never end: so
+// what is kept is another failure.
+fn lasting(answer: io::Result<()>) -> io::Result<()>
+    ensures { is_ok result ≡ is_ok answer }
+{
+    match answer {
+        Err(error) if error.kind() == ErrorKind::Interrupted => {
+            Err(io::Error::other("the write was interrupted too often"))
+        }
+        _ => answer,
     }
 }

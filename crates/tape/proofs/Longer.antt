@@ -1,17 +1,27 @@
 -- What stands at the start of a tape is the same once more of the tape is there, unless more of it was wished for: the tests look at the head, and at whether the body is there. Assumes nothing.
-use Prim.Native.Nat.{ℕ, ◌+◌, ◌<◌}
-use mathlib.Core.Bool.{Bool, false}
+use Prim.Native.Nat.{ℕ, ◌+◌, ◌≤◌, ◌<◌}
+use mathlib.Core.Bool.{Bool, false, cond}
 use mathlib.Core.List.{List, ◌++◌}
 use mathlib.Core.Path.{◌≡◌}
 use native.Mathlib.Omega.{arith}
+use lib.Dec.{ltb}
 use lib.ListN.{length, drop}
 use Rattle.std.specs.Prelude.{Ok, Err}
 use Rattle.std.proofs.lemmas.Grind.{common_steps}
 use Rattle.frame.specs.Frame.{word_at}
 use Rattle.tape.specs.Records.{body_in, head_length, record_in}
-use Rattle.tape.specs.Script.{next_in, next_of}
-use Rattle.tape.specs.Stops.{Stop, MoreTape}
+use Rattle.tape.specs.Script.{Next, cut, judged, next_in, next_of}
+use Rattle.tape.specs.Stops.{Stop, Error, MoreTape, cut_short}
 use Rattle.tape.proofs.Laws.{MessageAt, message_fits}
+
+-- What the tests of a body say, where a head is let through.
+abbrev pub body_of : Bool → List ℕ → Next
+body_of ends tape = cond (ltb (length tape) (head_length + word_at tape 0)) (cut ends (Error cut_short)) (Ok (word_at tape 0))
+
+-- a whole head is judged, and then its body
+pub head_judged : (ends : Bool) (tape : List ℕ) → head_length ≤ length tape → next_in ends tape ≡ judged (word_at tape 0) (word_at tape 2) (body_of ends tape)
+unfolding record_in next_of
+head_judged ends tape whole = grind (arith, common_steps)
 
 -- a message is one by what is known of it
 pub message_is : (ends : Bool) (tape : List ℕ) (size : ℕ) → MessageAt tape size → next_in ends tape ≡ Ok size

@@ -4,9 +4,11 @@ use mathlib.Core.Bool.{cond}
 use mathlib.Core.Path.{◌≡◌, refl, sym, ap, ◌∙◌}
 use lib.Dec.{eqb}
 use Rattle.tm32.proofs.OneOutcome.{refusal_back, refusal_told}
-use Rattle.tape.specs.Stops.{Stop, MoreTape, Room, End, Error, Refused, cut_short, error_number, stop_of, unknown_kind}
+use Rattle.std.specs.Prelude.{Result, Ok, Err}
+use Rattle.tape.specs.Stops.{Stop, Tells, MoreTape, Room, End, Error, Refused, cut_short, error_number, stop_of, unknown_kind}
 use Rattle.tape.specs.declared.Stop.{Stop as Stopped}
 use Rattle.tape.specs.declared.Stop.TheVariants as code
+use Rattle.tape.specs.declared.NoTapeError.{NoTapeError}
 use Rattle.tape.specs.declared.TapeError.{TapeError}
 use Rattle.tape.specs.declared.TapeError.TheVariants.{CutShort, UnknownKind, TooLong}
 
@@ -36,3 +38,14 @@ stop_back (code.Refused refusal) = ap code.Refused (refusal_back refusal)
 -- two stops that are told alike are the same
 pub same_stop : (one other : Stopped) → stop_of one ≡ stop_of other → one ≡ other
 same_stop one other same = sym (stop_back one) ∙ ap stop_told same ∙ stop_back other
+
+-- two errors with one number are the same
+same_error : (one other : TapeError) → error_number one ≡ error_number other → one ≡ other
+same_error one other same = sym (error_back one) ∙ ap error_told same ∙ error_back other
+
+-- so no two answers satisfy the contract of `TapeError::try_from`
+pub found_once : (number : ℕ) (one other : Result TapeError NoTapeError) → Tells number one → Tells number other → one ≡ other
+found_once number (Ok one) (Ok other) first second = ap Ok (same_error one other (first ∙ sym second))
+found_once number (Ok one) (Err other) first second = absurd (second.1 one first)
+found_once number (Err one) (Ok other) first second = absurd (first.1 other second)
+found_once number (Err one) (Err other) first second = ap (λ (none : ℕ). Err (record { 0 = none })) (first.0 ∙ sym second.0)

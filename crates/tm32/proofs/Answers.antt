@@ -1,14 +1,20 @@
--- Messages that are equal, and a call that is told no reply.
+-- Messages that are equal; a reply that was laid over the buffer, as the whole of what a message leaves; and a call that is told no reply.
 use Prim.Native.Nat.{ℕ}
 use mathlib.Core.Bool.{Bool, true, false, cond, ◌&&◌}
 use mathlib.Core.List.{List, [], ◌∷◌}
-use mathlib.Core.Path.{◌≡◌, refl, ap}
+use mathlib.Core.Path.{◌≡◌, refl, ap, ap₂, ◌∙◌}
 use lib.Dec.{eqb}
 use lib.Pointwise.{pointwise}
+use Rattle.std.specs.Prelude.{Ok}
+use Rattle.frame.specs.Frame.{laid}
 use Rattle.memory.specs.Stores.{same}
-use Rattle.tm32.specs.After.{call_checks, no_reply, replied, tell, telling}
+use Rattle.tm32.specs.After.{call_checks, lay, no_reply, replied, tell, telling}
 use Rattle.tm32_asks.specs.Checks.{verdict}
-use Rattle.tm32.specs.Device.{Device}
+use Rattle.tm32.specs.Device.{Device, Memory, device_of}
+use Rattle.tm32.specs.Promises.{Laid, lay_answer, leaves, turn_of}
+use Rattle.tm32.specs.Respond.{Answered, answered}
+use Rattle.tm32.specs.declared.Session.{Session}
+use Rattle.tm32.specs.declared.Turn.{Turn}
 use Rattle.tm32.specs.declared.Settings.{Settings}
 
 -- two messages are equal where they are the same byte for byte
@@ -18,6 +24,19 @@ alike [] [] = refl
 alike [] (second ∷ seconds) = refl
 alike (first ∷ firsts) [] = refl
 alike (first ∷ firsts) (second ∷ seconds) = ap (λ (rest : Bool). eqb first second && rest) (alike firsts seconds)
+
+-- ---- a reply that was laid over the buffer
+
+-- the device and the reply are those of an answer
+pub answers : (memory : Memory) {turn : Turn} {after buffer reply : List ℕ} {session : Session} {answer : Answered} → Laid turn after session reply buffer
+    → answered (device_of session memory) reply ≡ answer → leaves turn memory after ≡ lay_answer buffer answer
+unfolding lay
+answers memory {buffer = buffer} did same = ap₂ (λ (one : Turn) (list : List ℕ). leaves one memory list) did.handed did.over ∙ ap (lay_answer buffer) same
+
+-- nothing laid over a buffer
+pub nothing_laid : {turn : Turn} {session : Session} (buffer : List ℕ) → turn ≡ turn_of session (Ok 0) → Laid turn buffer session [] buffer
+unfolding laid
+nothing_laid buffer handed = record { handed = handed; over = refl }
 
 -- ---- a call without a reply
 

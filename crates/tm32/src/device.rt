@@ -14,7 +14,7 @@ use crate::mapped::MappedMemory;
 use crate::replies::reply;
 use crate::{
     LentMemory, Refusal, Session, Settings, State, Turn, erase, get, go, heart_beat, memory_crc,
-    pps, read, read_options, write, write_options,
+    pps, read, write, write_options,
 };
 use tm32_asks::{
     Complaint, FLASH_LENGTH, NVR_LENGTH, RAM_LENGTH, Request, bytes_to_write, is_rate, request_in,
@@ -161,7 +161,7 @@ fn serve(
 fn verdict_on(session: Session, memory: &MappedMemory, request: Request) -> Result<(), Complaint>
     ensures { number_of result ≡ verdict_on (device_of session (held (lent_of memory.now))) request }
 {
-    tm32_asks::verdict(session.link, read_options::work(memory), request)
+    tm32_asks::verdict(session.link, memory.options(), request)
 }
 
 // The work of a request that the checks let through, and the reply to it.
@@ -213,7 +213,7 @@ fn work(
             write_options::work(memory.flash, memory.nvr, frame::data_of(message));
             reply(start, session, Ok(()), &[], buffer)
         }
-        Request::ReadOptions => reply(start, session, Ok(()), read_options::work(memory), buffer),
+        Request::ReadOptions => reply(start, session, Ok(()), memory.options(), buffer),
         Request::HeartBeat => reply(start, heart_beat::work(session), Ok(()), &[], buffer),
         // The checks let none of these through.
         Request::Misshapen => reply(start, session, Err(Complaint::WrongShape), &[], buffer),

@@ -5,8 +5,7 @@ ghost use Rattle.tm32_asks.specs.Map.{flash_length, nvr_length, nvr_start, optio
 ghost use Rattle.tm32_asks.specs.Options.{option_bytes};
 ghost use Rattle.tm32.specs.Work.{wiped, wipes as wipes_is};
 
-use crate::erase;
-use crate::read_options::option_bytes;
+use crate::{erase, read_options};
 use tm32_asks::{OPTIONS_PLACE, PAGE_COUNT, rdp_on};
 
 // Lent the two slices that it changes, and so asks their lengths: through the struct the one could not be read while the other changes.
@@ -18,7 +17,7 @@ pub(crate) fn work(flash: &mut [u8], nvr: &mut [u8], options: &[u8])
     ensures { (flash.new ≡ wiped (option_bytes nvr.old) options.now page_count flash.old)
         × (nvr.new ≡ replaced nvr.old (options_start - nvr_start) options.now) }
 {
-    wipe(option_bytes(nvr), options, flash);
+    wipe(read_options::work(nvr), options, flash);
     memory::store(nvr, OPTIONS_PLACE, options).unwrap();
 }
 

@@ -1,4 +1,4 @@
--- No two answers satisfy the contract of `verdict`: it fixes the number of the answer, and no two answers have the same number.
+-- No two answers satisfy the contract of `verdict`, nor that of `Complaint::try_from`: it fixes the number of the answer, and no two answers have the same number.
 use Prim.Native.Nat.{ℕ}
 use mathlib.Core.Bool.{cond}
 use mathlib.Core.List.{List}
@@ -6,8 +6,9 @@ use mathlib.Core.Path.{◌≡◌, refl, ap, sym, ◌∙◌}
 use lib.Dec.{eqb}
 use Rattle.std.specs.Prelude.{Result, Ok, Err, ⊤}
 use Rattle.tm32_asks.specs.Checks.{checks_of, verdict}
-use Rattle.tm32_asks.specs.Results.{no_handshake, number_of, pcrop_protected, read_protected, readback_differs, work_done, write_protected, wrong_address, wrong_crc, wrong_length, wrong_link, wrong_page_count, wrong_rate, wrong_shape}
+use Rattle.tm32_asks.specs.Results.{Tells, no_handshake, number_of, pcrop_protected, read_protected, readback_differs, work_done, write_protected, wrong_address, wrong_crc, wrong_length, wrong_link, wrong_page_count, wrong_rate, wrong_shape}
 use Rattle.tm32_asks.specs.declared.results.Complaint.{Complaint}
+use Rattle.tm32_asks.specs.declared.results.NoComplaint.{NoComplaint}
 use Rattle.tm32_asks.specs.declared.results.Complaint.TheVariants.{NoHandshake, WrongShape, WrongLink, WrongRate, WrongLength, WrongPageCount, WrongAddress, ReadProtected, PcropProtected, WriteProtected, WrongCrc, ReadbackDiffers}
 use Rattle.tm32_asks.specs.declared.Link.{Link}
 use Rattle.tm32_asks.specs.declared.Request.{Request}
@@ -54,3 +55,12 @@ pub verdict_once : (link : Link) (options : List ℕ) (request : Request) (one o
     → number_of one ≡ verdict work_done (checks_of link options request) → number_of other ≡ verdict work_done (checks_of link options request)
     → one ≡ other
 verdict_once link options request one other first second = same_answer one other (first ∙ sym second)
+
+-- what is found for a number
+pub found_once : (number : ℕ) (one other : Result Complaint NoComplaint) → Tells number one → Tells number other → one ≡ other
+found_once number (Ok one) (Ok other) first second =
+    let same = same_answer (Err one) (Err other) (first ∙ sym second) in
+    cc
+found_once number (Ok one) (Err other) first second = absurd (second.1 one first)
+found_once number (Err one) (Ok other) first second = absurd (first.1 other second)
+found_once number (Err one) (Err other) first second = ap (λ (none : ℕ). Err (record { 0 = none })) (first.0 ∙ sym second.0)

@@ -1,9 +1,9 @@
 // The checks of a request, in 01's order: the first that fails is complained of.
-ghost use Rattle.std.specs.Prelude.{◌≡◌, ◌+◌, ltb, if◌then◌else◌, Ok, Err};
-ghost use Rattle.tm32_asks.specs.Checks.{checks, checks_of, flash_pages, is_length, is_page_count, protections, read_checks, verdict as verdict_of, write_checks};
+ghost use Rattle.std.specs.Prelude.{not, ◌≡◌, [], ◌∷◌, ◌+◌, ltb, if◌then◌else◌, Ok, Err};
+ghost use Rattle.tm32_asks.specs.Checks.{check, checks, checks_of, flash_pages, is_length, is_page_count, protections, read_checks, verdict as verdict_of, write_checks};
 ghost use Rattle.tm32_asks.specs.Map.{page_count};
 ghost use Rattle.tm32_asks.specs.Rates.{is_rate};
-ghost use Rattle.tm32_asks.specs.Results.{number_of, work_done};
+ghost use Rattle.tm32_asks.specs.Results.{number_of, work_done, wrong_address, wrong_length};
 
 use crate::map::{
     FLASH_START, PAGE_COUNT, PAGE_SIZE, in_flash, in_go_region, in_read_region, in_user_region,
@@ -38,16 +38,13 @@ fn checked(link: Link, request: Request) -> Result<(), Complaint>
             need(is_rate(code), Complaint::WrongRate)
         }
         Request::Read { address, count } => {
-            need(is_length(count), Complaint::WrongLength)?;
-            need(in_read_region(address, count), Complaint::WrongAddress)
+            range_checked(is_length(count), in_read_region(address, count))
         }
         Request::Write { address, count, .. } => {
-            need(is_length(count), Complaint::WrongLength)?;
-            need(in_user_region(address, count), Complaint::WrongAddress)
+            range_checked(is_length(count), in_user_region(address, count))
         }
         Request::MemoryCrc { address, count, .. } => {
-            need(count != 0, Complaint::WrongLength)?;
-            need(in_user_region(address, count), Complaint::WrongAddress)
+            range_checked(count != 0, in_user_region(address, count))
         }
         Request::Erase { first, count } => {
             need(is_page_count(count), Complaint::WrongPageCount)?;
@@ -57,6 +54,16 @@ fn checked(link: Link, request: Request) -> Result<(), Complaint>
         Request::Get | Request::WriteOptions | Request::ReadOptions | Request::HeartBeat => Ok(()),
         Request::Misshapen => Err(Complaint::WrongShape),
     }
+}
+
+// Length and address of a range: whether each is right.
+#[tactic(auto, unfolding(crate::specs::Checks::verdict))]
+fn range_checked(length: bool, address: bool) -> Result<(), Complaint>
+    ensures { number_of result ≡ verdict_of work_done
+        (check (not length) wrong_length ∷ check (not address) wrong_address ∷ []) }
+{
+    need(length, Complaint::WrongLength)?;
+    need(address, Complaint::WrongAddress)
 }
 
 // Protection. Read and Memory CRC look at pages, Write changes them, and Erase counts as both.

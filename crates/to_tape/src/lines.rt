@@ -1,6 +1,8 @@
 // The lines of a text, each turned into a record.
+ghost use Rattle.std.specs.Prelude.{◌≤◌, length};
+
 use crate::errors::Failure;
-use stream::{Consumer, FillError, Sheet};
+use stream::{Consumer, FillError, SheetWriter};
 use tape::{Head, MESSAGE};
 use text::LineError;
 
@@ -10,7 +12,7 @@ use text::LineError;
 pub(crate) struct Recorder<'a, P> {
     start: u16,
     number: u64,
-    sheet: Sheet<'a, P>,
+    sheet: SheetWriter<'a, P>,
     scratch: &'a mut [u8],
     message: &'a mut [u8],
 }
@@ -55,7 +57,7 @@ impl<P: Print> Consumer for Recorder<'_, P> {
 impl<'a, P: Print> Recorder<'a, P> {
     pub(crate) fn new(
         start: u16,
-        sheet: Sheet<'a, P>,
+        sheet: SheetWriter<'a, P>,
         scratch: &'a mut [u8],
         message: &'a mut [u8],
     ) -> Self {
@@ -68,29 +70,31 @@ impl<'a, P: Print> Recorder<'a, P> {
         }
     }
 
-    // One line: its message, if it has one, goes on the sheet as a record.
+    // One line: its message, if it has one, goes on the sheet as a record. That it lies in its buffer the law of the line says.
     fn line(&mut self, line: &[u8]) -> Result<(), Failure> {
-        let read = text::message_in(self.start, line, self.scratch, self.message);
-        match read {
+        match text::message_in(self.start, line, self.scratch, self.message) {
             Ok(None) => Ok(()),
-            Ok(Some(length)) => self.record(length),
+            Ok(Some(size)) => self.record(size),
             Err(error) => Err(self.wrong(error)),
         }
     }
 
-    // The message, of this length in its buffer, as a record: a part of the buffer cannot be handed on beside the recorder that holds it.
-    fn record(&mut self, length: usize) -> Result<(), Failure> {
-        let Ok(size) = u16::try_from(length) else {
+    // The message, of this size in its buffer, as a record: its head says how long that part of the buffer is.
+    fn record(&mut self, size: usize) -> Result<(), Failure>
+        requires { size ≤ length self.old.message.now }
+    {
+        let message = &mut *self.message;
+        let body = &message[..size];
+        let Ok(length) = u16::try_from(body.len()) else {
             return Err(self.wrong(LineError::TooLong));
         };
         let head = Head {
-            length: size,
+            length,
             kind: MESSAGE,
         };
         // Where the sheet cannot be written out it keeps that, and it is told when the lines of the block are done.
         let _ = self.sheet.bytes(&head.to_bytes());
-        let message = &mut *self.message;
-        let _ = self.sheet.bytes(stream::first(message, length));
+        let _ = self.sheet.bytes(body);
         Ok(())
     }
 

@@ -7,7 +7,7 @@ mod errors;
 mod lines;
 
 use lines::Recorder;
-use stream::Sheet;
+use stream::SheetWriter;
 
 // How many bytes each of the blocks has that are lent: one more than the longest line may have.
 const ROOM: usize = 65536;
@@ -26,7 +26,7 @@ fn record(rt: &(impl Input + Print + Eprint), start: u16) {
     let mut scratch = [0; ROOM];
     let mut message = [0; ROOM];
     let mut paper = [0; ROOM];
-    let sheet = Sheet::empty(rt, &mut paper);
+    let sheet = SheetWriter::empty(rt, &mut paper);
     let mut recorder = Recorder::new(start, sheet, &mut scratch, &mut message);
     if let Err(error) = stream::feed(rt, &mut block, &mut recorder) {
         let _ = rt.eprintln(error);

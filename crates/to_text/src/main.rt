@@ -7,7 +7,7 @@ mod records;
 mod words;
 
 use records::Describer;
-use stream::Sheet;
+use stream::SheetWriter;
 
 // Room for the longest record and as much again.
 const BLOCK: usize = 131072;
@@ -27,7 +27,7 @@ fn main(rt: HostRuntime) {
 fn describe(rt: &(impl Input + Print + Eprint), start: u16) {
     let mut block = [0; BLOCK];
     let mut paper = [0; PAPER];
-    let mut describer = Describer::new(start, Sheet::empty(rt, &mut paper));
+    let mut describer = Describer::new(start, SheetWriter::empty(rt, &mut paper));
     if let Err(error) = stream::feed(rt, &mut block, &mut describer) {
         let _ = rt.eprintln(error);
     }

@@ -2,21 +2,25 @@
 use crate::errors::Failure;
 use crate::words;
 use frame::Sound;
+use itoa::Buffer;
 use std::io::Write;
 use std::{fmt, io};
-use stream::{Consumer, FillError, Sheet};
+use stream::{Consumer, FillError, SheetWriter};
 use tape::{ERROR, Found, HEAD_LENGTH, MESSAGE, REPLY, TapeError};
 use tm32_asks::{Complaint, number_of};
+
+// How many bytes are spelt at a time.
+const FEW: usize = 16;
 
 // Makes text of a tape, on a sheet. The CRCs of its frames start from a value.
 #[derive(Drop)]
 pub(crate) struct Describer<'a, P> {
     start: u16,
-    sheet: Sheet<'a, P>,
+    sheet: SheetWriter<'a, P>,
 }
 
 impl<'a, P: Print> Describer<'a, P> {
-    pub(crate) fn new(start: u16, sheet: Sheet<'a, P>) -> Self {
+    pub(crate) fn new(start: u16, sheet: SheetWriter<'a, P>) -> Self {
         Describer { start, sheet }
     }
 
@@ -32,20 +36,43 @@ impl<'a, P: Print> Describer<'a, P> {
                 writeln!(self.sheet, "{}", Reply::read(self.start, body))
             }
             ERROR => writeln!(self.sheet, "! {}", Wrong(body)),
-            _ => writeln!(self.sheet, "? kind 0x{kind:04X}, {} bytes", body.len()),
+            _ => self.other(kind, body.len()),
         }
     }
 
-    // Bytes as two digits each, with a space behind. They go on the sheet as they are: as a format, {:02X}, a tape takes five times
-    // as long.
+    // A record that is none of these. As a format it takes more than twice as long, and a tape may hold nothing else.
+    fn other(&mut self, kind: u16, length: usize) -> io::Result<()> {
+        let [high, low] = kind.to_be_bytes();
+        let [first, second] = text::hex_of(high);
+        let [third, fourth] = text::hex_of(low);
+        self.sheet.bytes(b"? kind 0x")?;
+        self.sheet
+            .bytes(&[first, second, third, fourth, b',', b' '])?;
+        self.sheet.bytes(Buffer::new().format(length).as_bytes())?;
+        self.sheet.bytes(b" bytes\n")
+    }
+
+    // Bytes as two digits each, with a space behind, a few at a time. They go on the sheet as they are: as a format, {:02X}, a tape takes five
+    // times as long.
     fn hex(&mut self, mark: &[u8], bytes: &[u8]) -> io::Result<()> {
         self.sheet.bytes(mark)?;
-        for byte in bytes {
-            let [high, low] = text::hex_of(*byte);
-            self.sheet.bytes(&[high, low, b' '])?;
+        let mut room = [b' '; 3 * FEW];
+        for few in bytes.chunks(FEW) {
+            self.sheet.bytes(spelt(few, &mut room))?;
         }
         Ok(())
     }
+}
+
+// The first few of some bytes, laid over a room of spaces.
+fn spelt<'r>(bytes: &[u8], room: &'r mut [u8; 3 * FEW]) -> &'r [u8] {
+    let count = bytes.len().min(FEW);
+    for (place, byte) in bytes[..count].iter().enumerate() {
+        let [high, low] = text::hex_of(*byte);
+        room[3 * place] = high;
+        room[3 * place + 1] = low;
+    }
+    &room[..3 * count]
 }
 
 impl<P: Print> Consumer for Describer<'_, P> {

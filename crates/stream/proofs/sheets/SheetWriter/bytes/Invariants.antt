@@ -1,7 +1,7 @@
--- The loop of `stream::Sheet::bytes`: byte for byte, in order, with one answer of the system for each.
+-- The loop of `stream::SheetWriter::bytes`: byte for byte, in order, with one answer of the system for each.
 use lib.ListN.{take}
 use Rattle.stream.specs.Sheets.{AddsAll, GoesOn, filled}
-use Rattle.stream.proofs.sheets.Sheet.bytes.Given as goal
+use Rattle.stream.proofs.sheets.SheetWriter.bytes.Given as goal
 
 abbrev pub invariant-loop-value : goal.invariant-loop-value
 invariant-loop-value g l = record {

@@ -1,4 +1,4 @@
--- `stream::Sheet::bytes` meets its contract: what its loop keeps says so at the end.
+-- `stream::SheetWriter::bytes` meets its contract: what its loop keeps says so at the end.
 use Prim.Native.Nat.{ℕ, ◌+◌, ◌<◌}
 use mathlib.Core.Bool.{Bool}
 use mathlib.Core.List.{List, [], ◌∷◌, ◌++◌}
@@ -10,7 +10,7 @@ use Rattle.std.specs.Prelude.{Result, IsErr}
 use lib.ListN.{length, take, get_or, length-append}
 use lib.Seq.{take-suc}
 use Rattle.stream.specs.Sheets.{Sheet, Adds, AddsAll, Collected, Lasts, all_more, one_more}
-use Rattle.stream.proofs.sheets.Sheet.bytes.Goals as goal
+use Rattle.stream.proofs.sheets.SheetWriter.bytes.Goals as goal
 
 -- one byte more behind some, with one answer more
 one_behind : (answers : List Bool) (taken : Bool) (sheet : Sheet) (buffer values : List ℕ) (value : ℕ) → length answers ≡ length values

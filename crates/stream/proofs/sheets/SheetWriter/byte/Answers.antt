@@ -1,4 +1,4 @@
--- `stream::Sheet::byte` meets its contract: a byte is put where the sheet has room for it, once a full one is written out.
+-- `stream::SheetWriter::byte` meets its contract: a byte is put where the sheet has room for it, once a full one is written out.
 use Prim.Native.Nat.{ℕ, ◌+◌, ◌≤◌, ◌<◌}
 use mathlib.Core.List.{List}
 use mathlib.Core.Path.{◌≡◌, ap, ◌∙◌}
@@ -6,7 +6,7 @@ use native.Mathlib.Omega.{arith}
 use borrow.Author.Tests.{le-ltb, lt-ltb}
 use lib.ListN.{length, set}
 use Rattle.stream.specs.Sheets.{Sheet, Adds, MakesRoom, collected, one_more, putting_on, sheet_of}
-use Rattle.stream.proofs.sheets.Sheet.byte.Goals as goal
+use Rattle.stream.proofs.sheets.SheetWriter.byte.Goals as goal
 
 module _ {sheet roomy : Sheet} {buffer : List ℕ} {value : ℕ} (makes : MakesRoom (length buffer) sheet roomy) where
   -- a sheet with room
