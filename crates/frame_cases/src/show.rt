@@ -2,7 +2,7 @@
 use frame::{Sound, Spoiled, WriteError};
 use std::fmt;
 
-// Bytes as 01 prints them, with a space between two. The device's cases print bytes by themselves: they share no crate with these.
+// Bytes as 01 prints them, with a space between two. The device's cases print bytes by themselves: the crate that both stand on prints none.
 #[derive(Clone, Copy, Debug)]
 pub(crate) struct Bytes<'a>(pub(crate) &'a [u8]);
 

@@ -6,6 +6,7 @@ use mathlib.Core.Logic.{◌≢◌}
 use mathlib.Core.Path.{◌≡◌, ap}
 use native.Mathlib.Omega.{arith}
 use lib.Dec.{eqb}
+use Rattle.std.specs.Prelude.{Result, Ok, Err}
 use lib.ListN.{drop, length, get_or, take}
 use Rattle.stream.specs.Sheets.{Sheet, Adds, AddsAll, Collected, WritesOut, all_more, collected, empty_sheet, one_more, putting_on, sheet_of, with_room, written_out}
 
@@ -51,6 +52,10 @@ turned_round (one ∷ other ∷ third ∷ rest) two is = omega arith
 
 last_byte_first : AddsAll empty_sheet (0x00 ∷ 0x00 ∷ []) (0x11 ∷ 0x22 ∷ []) (sheet_of 2 false) (0x22 ∷ 0x11 ∷ []) → ⊥
 last_byte_first adds = turned_round adds.answers adds.one_each adds.same
+
+-- print, println and write_all of standard output that goes on: a failure is told
+failure_told : (failure : ℕ) → ◌≢◌ {A = Result Unit ℕ} (Ok tt) (Err failure)
+failure_told failure is = cc
 
 -- first: one byte more than was asked for
 one_byte_more : take {A = ℕ} 2 (0x11 ∷ 0x22 ∷ 0x33 ∷ []) ≢ 0x11 ∷ 0x22 ∷ 0x33 ∷ []

@@ -1,5 +1,5 @@
-// What the programs read and write by: a block that standard input is read into piece by piece, and a sheet on which what goes to
-// standard output is collected.
+// What the programs read and write by: a block that standard input is read into piece by piece, a sheet on which what goes to
+// standard output is collected, and standard output that goes on where a write fails.
 #![tactic(auto)]
 
 mod blocks;

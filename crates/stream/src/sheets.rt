@@ -2,7 +2,8 @@
 // is. A sheet is a value, that each call takes and hands back; what holds its paper and the handle, too, is its writer.
 ghost use Rattle.std.specs.Io.KnownBytes.{WriteAppends};
 ghost use Rattle.std.specs.Io.{WritesAtMost};
-ghost use Rattle.std.specs.Prelude.{◌≡◌, ◌+◌, ◌≤◌, ◌↔◌, IsTrue, None, is_ok, length, not, take};
+ghost use Rattle.std.specs.IoError.{error_kind};
+ghost use Rattle.std.specs.Prelude.{◌≡◌, ◌≢◌, ◌+◌, ◌≤◌, ◌↔◌, IfErr, IsTrue, None, is_ok, length, not, take};
 ghost use Rattle.stream.specs.Sheets.{Adds, AddsAll, GoesOn, MakesRoom, WritesOut, empty_sheet, filled, on_paper, sheet_of, told};
 
 use crate::first;
@@ -30,18 +31,38 @@ impl Sheet {
     pub fn byte(self, rt: &impl Print, buffer: &mut [u8], value: u8) -> Self
         ensures { Adds self buffer.old value result buffer.new }
     {
-        let mut writer = SheetWriter::resumed(self, rt, buffer);
-        writer.byte(value);
-        writer.sheet()
+        let sheet = self.with_room(rt, buffer);
+        let place = sheet.place;
+        if place < buffer.len() {
+            buffer[place] = value;
+            return Sheet {
+                place: place + 1,
+                ..sheet
+            };
+        }
+        sheet
     }
 
     // Some bytes more.
     pub fn bytes(self, rt: &impl Print, buffer: &mut [u8], values: &[u8]) -> Self
         ensures { AddsAll self buffer.old values.now result buffer.new }
     {
-        let mut writer = SheetWriter::resumed(self, rt, buffer);
-        let _ = writer.bytes(values);
-        writer.sheet()
+        let mut sheet = self;
+        for value in values {
+            sheet = sheet.byte(rt, buffer, *value);
+        }
+        sheet
+    }
+
+    // A full sheet is written out.
+    #[tactic(auto, using(crate::proofs::Laws::roomy, crate::proofs::Laws::made))]
+    fn with_room(self, rt: &impl Print, buffer: &[u8]) -> Self
+        ensures { MakesRoom (length buffer.now) self result }
+    {
+        if self.place < buffer.len() {
+            return self;
+        }
+        self.written(rt, buffer)
     }
 
     // All of it is written out.
@@ -235,7 +256,8 @@ impl<P: Print> Write for SheetWriter<'_, P> {
 // What the system answers, as it is kept. Who is told that a write was interrupted tries again, and told so for ever it would never end: so
 // what is kept is another failure.
 fn lasting(answer: io::Result<()>) -> io::Result<()>
-    ensures { is_ok result ≡ is_ok answer }
+    ensures same { is_ok result ≡ is_ok answer }
+    ensures lasts { IfErr result (λ error. error_kind error ≢ ErrorKind.Interrupted) }
 {
     match answer {
         Err(error) if error.kind() == ErrorKind::Interrupted => {

@@ -1,6 +1,5 @@
 -- `stream::Sheet::written` meets its contract: a sheet that has failed is handed back as it is, and another is empty, and failed if the system did not take it.
-use mathlib.Core.Bool.{false}
-use mathlib.Core.Path.{◌≡◌, refl}
+use mathlib.Core.Path.{refl}
 use Rattle.stream.proofs.Laws.{empties, stays}
 use Rattle.stream.proofs.sheets.Sheet.written.Goals as goal
 

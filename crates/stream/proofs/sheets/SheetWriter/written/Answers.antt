@@ -7,4 +7,4 @@ use Rattle.stream.proofs.sheets.SheetWriter.written.Goals as goal
 
 pub returns-clause-writes : goal.returns-clause-writes
 returns-clause-writes g c =
-    empties (filled c.args.self.now) _ (is_ok c.write_all.result) (search rules) (c.empty_by.ensures.empties ∙ ap (λ (taken : Bool). sheet_of 0 (not taken)) c.lasting-answer.ensures)
+    empties (filled c.args.self.now) _ (is_ok c.write_all.result) (search rules) (c.empty_by.ensures.empties ∙ ap (λ (taken : Bool). sheet_of 0 (not taken)) c.lasting-answer.ensures.same)
