@@ -33,16 +33,27 @@ impl fmt::Display for Run<'_> {
             [] => Ok(()),
             [byte, ..] if LONGEST_SPELT < self.0.len() => {
                 let count = self.0.len();
-                write!(f, "{byte:02X}*{count}")
+                write!(f, "{}*{count}", Digits(*byte))
             }
             [first, rest @ ..] => {
-                write!(f, "{first:02X}")?;
+                write!(f, "{}", Digits(*first))?;
                 for byte in rest {
-                    write!(f, " {byte:02X}")?;
+                    write!(f, " {}", Digits(*byte))?;
                 }
                 Ok(())
             }
         }
+    }
+}
+
+// A byte as two digits, in one piece: as {:02X} a leading nought is a piece of its own, and a write more.
+#[derive(Clone, Copy)]
+struct Digits(u8);
+
+impl fmt::Display for Digits {
+    fn fmt<W: fmt::Write>(&self, f: &mut fmt::Formatter<W>) -> fmt::Result {
+        let digits = text::hex_of(self.0);
+        f.write_str(str::from_utf8(&digits).unwrap_or_default())
     }
 }
 
